@@ -1,0 +1,81 @@
+-- Document 01: the call on any bytes, budget and room: question 1, what is handed back, and the room afterwards. Assumes nothing.
+use Prim.Native.Nat.{ℕ}
+use mathlib.Core.Bool.{Bool, true, false}
+use mathlib.Core.List.{List, [], _∷_, _++_}
+use lib.Dec.{leb}
+use lib.ListN.{length, drop}
+use Rattle.definitions.specs.Sheet.{lines}
+use Rattle.definitions.specs.Questions.{Reading, refused, accepted, read}
+use Rattle.definitions.specs.Search.{State, Outcome, more, done, search}
+use Rattle.definitions.specs.Listing.{answerNumber, listing, refusalLine}
+use Rattle.definitions.specs.declared.Verdict.{Verdict}
+use Rattle.definitions.specs.declared.Answer.{Answer}
+use Rattle.definitions.specs.declared.Answer.the-variants.{Refused, Answered}
+
+-- what a call comes to: a refusal's number and line, or where the search ended
+pub data Result : Type 0 where
+  refusal : ℕ → ℕ → Result
+  ended : Verdict → State → Result
+  unended : Result
+
+-- a search that has not ended within its steps; the theory shows that there is none for an accepted sheet
+unfoldable pub searched : Outcome → Result
+searched (more s) = unended
+searched (done v s) = ended v s
+
+-- the result of a sheet that was read
+unfoldable pub answered : Reading → ℕ → Result
+answered (refused q n) budget = refusal q n
+answered (accepted p) budget = searched (search p budget)
+
+-- 1: the lent room has at least 45,056 bytes
+unfoldable pub result : List ℕ → ℕ → List ℕ → Result
+result sheet budget room = elim (leb 45056 (length room)) [ true ↦ answered (read sheet) budget | false ↦ refusal 1 0 ]
+
+-- what the call hands back
+unfoldable pub answerOf : Result → Answer
+answerOf (refusal q n) = Refused (record { number = q; line = n })
+answerOf (ended v s) =
+    Answered (record { verdict = v; atoms = length (s .table); logged = length (s .log); decisions = s .decisions; conflicts = s .conflicts })
+answerOf unended = Refused (record { number = 0; line = 0 })
+
+-- the listing; a refusal has none
+unfoldable pub listingOf : Result → List ℕ
+listingOf (refusal q n) = []
+listingOf (ended v s) = listing v s
+listingOf unended = []
+
+-- the listing stands at the front of the room, and the bytes behind it are those before
+unfoldable pub written : List ℕ → List ℕ → List ℕ
+written bytes room = bytes ++ drop (length bytes) room
+
+-- the call: the answer that it hands back
+unfoldable pub call : List ℕ → ℕ → List ℕ → Answer
+call sheet budget room = answerOf (result sheet budget room)
+
+-- the second call: the front part of the room that it hands back
+unfoldable pub listedPart : List ℕ → ℕ → List ℕ → List ℕ
+listedPart sheet budget room = listingOf (result sheet budget room)
+
+-- the room after either call
+unfoldable pub roomAfter : List ℕ → ℕ → List ℕ → List ℕ
+roomAfter sheet budget room = written (listingOf (result sheet budget room)) room
+
+-- what the program prints: the listing, or the line of a refusal
+unfoldable pub printedOf : Result → List ℕ
+printedOf (refusal q n) = refusalLine q n
+printedOf (ended v s) = listing v s
+printedOf unended = []
+
+unfoldable pub printed : List ℕ → ℕ → List ℕ
+printed sheet budget = printedOf (answered (read sheet) budget)
+
+-- this paper's number and values of each case: number and line, or the answer's number and the four counts
+unfoldable pub values : Answer → List ℕ
+values (Refused r) = r .number ∷ r .line ∷ []
+values (Answered c) = answerNumber (c .verdict) ∷ c .atoms ∷ c .logged ∷ c .decisions ∷ c .conflicts ∷ []
+
+-- names every definition of this module, for a theorem that computes with all of them
+unfoldable pub Call·all : Unit {0}
+unfolding searched answered result answerOf listingOf written call listedPart roomAfter printedOf printed values
+Call·all = tt

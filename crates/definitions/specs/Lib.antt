@@ -1,0 +1,12 @@
+pub mod Lists
+pub mod Words
+pub mod Instances
+pub mod Meaning
+pub mod Sheet
+pub mod Questions
+pub mod Search
+pub mod Listing
+pub mod Call
+pub mod Sheets
+pub mod Text
+pub mod Trials

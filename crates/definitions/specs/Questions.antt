@@ -1,0 +1,228 @@
+-- Document 01, "Questions asked of a call": 2 to 13, in their order, and what is read. Assumes nothing.
+use Prim.Native.Nat.{ℕ, zero, suc, _-_, _%_}
+use mathlib.Core.Bool.{Bool, true, false, not, _&&_}
+use mathlib.Core.List.{List, [], _∷_, _++_}
+use lib.Dec.{eqb, leb, ltb}
+use lib.ListN.{length, getD}
+use Rattle.definitions.specs.Lists.{isEmpty, all}
+use Rattle.definitions.specs.Words.{Atom, Literal, Clause, Term, variable, constant, Pattern, Rule, Problem, goalAtoms}
+use Rattle.definitions.specs.Instances.{occursIn}
+use Rattle.definitions.specs.Sheet.{Line, lines, Number, Column, number, fault, decimal}
+
+-- the first question that is answered no, by its number, or what was read
+pub data Asked (A : Type 0) : Type 0 where
+  no : ℕ → Asked A
+  yes : A → Asked A
+
+module _ {A B : Type 0} where
+  infixl 10 _>>=_
+  infixl 10 _>>_
+  unfoldable pub _>>=_ : Asked A → (A → Asked B) → Asked B
+  no q >>= f = no q
+  yes a >>= f = f a
+
+  unfoldable pub _>>_ : Asked A → Asked B → Asked B
+  no q >> b = no q
+  yes a >> b = b
+
+unfoldable pub ask : ℕ → Bool → Asked (Unit {0})
+ask q true = yes tt
+ask q false = no q
+
+-- 6: every column of 4 bytes is a decimal
+unfoldable pub asNumber : Column → Asked Number
+asNumber (number n) = yes n
+asNumber fault = no 6
+
+unfoldable pub columns : List ℕ → Asked (List Number)
+columns [] = yes []
+columns (a ∷ []) = no 6
+columns (a ∷ b ∷ []) = no 6
+columns (a ∷ b ∷ c ∷ []) = no 6
+columns (a ∷ b ∷ c ∷ d ∷ rest) = do
+  n ← asNumber (decimal (a ∷ b ∷ c ∷ d ∷ []))
+  ns ← columns rest
+  yes (n ∷ ns)
+
+-- a walk over the columns of a line: what was found, and the columns that are left
+pub record Walk (A : Type 0) : Type 0 where
+  pub found : A
+  pub left : List Number
+
+-- the next column holds a number from low to high
+unfoldable pub within : ℕ → ℕ → Number → Bool
+within low high n = not (n .negative) && leb low (n .size) && leb (n .size) high
+
+unfoldable pub count : ℕ → ℕ → ℕ → List Number → Asked (Walk ℕ)
+count q low high [] = no q
+count q low high (n ∷ ns) = do
+  ask q (within low high n)
+  yes (record { found = n .size; left = ns })
+
+-- 7: kind 1 on the first line, and on later lines 2 to 4 and no lower than the line before; 0 stands for no line before
+unfoldable pub kindOf : ℕ → List Number → Asked (Walk ℕ)
+kindOf zero ns = count 7 1 1 ns
+kindOf (suc before) ns = do
+  k ← count 7 2 4 ns
+  ask 7 (leb (suc before) (k .found))
+  yes k
+
+-- 10: an argument in a rule, 1 to 6 for a variable and -k for constant k
+unfoldable pub ruleArgument : ℕ → Number → Asked Term
+ruleArgument constants n =
+    elim (n .negative) [
+      | true ↦ ask 10 (leb 1 (n .size) && leb (n .size) constants) >> yes (constant (n .size))
+      | false ↦ ask 10 (leb 1 (n .size) && leb (n .size) 6) >> yes (variable (n .size))
+    ]
+
+-- 10: an argument in a clause, a constant from 1
+unfoldable pub clauseArgument : ℕ → Number → Asked ℕ
+clauseArgument constants n = ask 10 (within 1 constants n) >> yes (n .size)
+
+module _ {A : Type 0} where
+  unfoldable pub arguments : (Number → Asked A) → ℕ → List Number → Asked (Walk (List A))
+  arguments argument zero ns = yes (record { found = []; left = ns })
+  arguments argument (suc k) [] = no 10
+  arguments argument (suc k) (n ∷ ns) = do
+    a ← argument n
+    w ← arguments argument k ns
+    yes (record { found = a ∷ w .found; left = w .left })
+
+module _ {A L : Type 0} where
+  -- 10: the column is there, the symbol is declared, and so many arguments follow as it has
+  unfoldable pub literal : (Number → Asked A) → (Bool → ℕ → List A → L) → List ℕ → List Number → Asked (Walk L)
+  literal argument make arities [] = no 10
+  literal argument make arities (n ∷ ns) = do
+    ask 10 (leb 1 (n .size) && leb (n .size) (length arities))
+    w ← arguments argument (getD arities (n .size - 1) 0) ns
+    yes (record { found = make (not (n .negative)) (n .size) (w .found); left = w .left })
+
+  unfoldable pub literals : (Number → Asked A) → (Bool → ℕ → List A → L) → List ℕ → ℕ → List Number → Asked (Walk (List L))
+  literals argument make arities zero ns = yes (record { found = []; left = ns })
+  literals argument make arities (suc k) ns = do
+    l ← literal argument make arities ns
+    w ← literals argument make arities k (l .left)
+    yes (record { found = l .found ∷ w .found; left = w .left })
+
+unfoldable pub patternOf : Bool → ℕ → List Term → Pattern
+patternOf positive symbol terms = record { positive = positive; symbol = symbol; terms = terms }
+
+unfoldable pub literalOf : Bool → ℕ → List ℕ → Literal
+literalOf positive symbol args = record { positive = positive; atom = record { symbol = symbol; args = args } }
+
+unfoldable pub patterns : Problem → ℕ → List Number → Asked (Walk (List Pattern))
+patterns p = literals (ruleArgument (p .constants)) patternOf (p .arities)
+
+unfoldable pub clauseLiterals : Problem → ℕ → List Number → Asked (Walk Clause)
+clauseLiterals p = literals (clauseArgument (p .constants)) literalOf (p .arities)
+
+-- 12: each body variable stands in the head
+unfoldable pub inHead : List Pattern → Term → Bool
+inHead heads (variable v) = occursIn heads v
+inHead heads (constant c) = true
+
+unfoldable pub restricted : Rule → Bool
+restricted r = all (λ (p : Pattern). all (inHead (r .heads)) (p .terms)) (r .body)
+
+-- what was read, with one line more
+unfoldable pub withConstants : Problem → ℕ → Problem
+withConstants p n = record { constants = n; arities = p .arities; rules = p .rules; clauses = p .clauses }
+
+unfoldable pub withSymbol : Problem → ℕ → Problem
+withSymbol p arity = record { constants = p .constants; arities = p .arities ++ (arity ∷ []); rules = p .rules; clauses = p .clauses }
+
+unfoldable pub withRule : Problem → Rule → Problem
+withRule p r = record { constants = p .constants; arities = p .arities; rules = p .rules ++ (r ∷ []); clauses = p .clauses }
+
+unfoldable pub withClause : Problem → Clause → Problem
+withClause p c = record { constants = p .constants; arities = p .arities; rules = p .rules; clauses = p .clauses ++ (c ∷ []) }
+
+-- 8 to 13, of a line of each kind
+unfoldable pub constantsLine : Problem → List Number → Asked Problem
+constantsLine p ns = do
+  n ← count 8 1 32 ns
+  ask 11 (isEmpty (n .left))
+  yes (withConstants p (n .found))
+
+unfoldable pub symbolLine : Problem → List Number → Asked Problem
+symbolLine p ns = do
+  arity ← count 8 0 3 ns
+  ask 9 (ltb (length (p .arities)) 16)
+  ask 11 (isEmpty (arity .left))
+  yes (withSymbol p (arity .found))
+
+unfoldable pub ruleLine : Problem → List Number → Asked Problem
+ruleLine p ns = do
+  headCount ← count 8 1 3 ns
+  bodyCount ← count 8 0 2 (headCount .left)
+  ask 9 (ltb (length (p .rules)) 32)
+  heads ← patterns p (headCount .found) (bodyCount .left)
+  body ← patterns p (bodyCount .found) (heads .left)
+  ask 11 (isEmpty (body .left))
+  let r : Rule = record { heads = heads .found; body = body .found }
+  ask 12 (restricted r)
+  yes (withRule p r)
+
+unfoldable pub clauseLine : Problem → List Number → Asked Problem
+clauseLine p ns = do
+  literalCount ← count 8 0 8 ns
+  ask 9 (ltb (length (p .clauses)) 64)
+  c ← clauseLiterals p (literalCount .found) (literalCount .left)
+  ask 11 (isEmpty (c .left))
+  let q : Problem = withClause p (c .found)
+  ask 13 (leb (length (goalAtoms (q .clauses))) 64)
+  yes q
+
+unfoldable pub lineOfKind : ℕ → Problem → List Number → Asked Problem
+lineOfKind k p ns =
+    elim (eqb k 1) [
+      | true ↦ constantsLine p ns
+      | false ↦ elim (eqb k 2) [
+        | true ↦ symbolLine p ns
+        | false ↦ elim (eqb k 3) [ true ↦ ruleLine p ns | false ↦ clauseLine p ns ]
+      ]
+    ]
+
+-- 5: the length without LF is 4 to 136 and a multiple of 4
+unfoldable pub goodLength : ℕ → Bool
+goodLength n = leb 4 n && leb n 136 && eqb (n % 4) 0
+
+-- what was read so far, with the kind of the line before
+pub record Draft : Type 0 where
+  pub before : ℕ
+  pub problem : Problem
+
+-- 4 to 13, of one line
+unfoldable pub readLine : Draft → Line → Asked Draft
+readLine d l = do
+  ask 4 (l .ended)
+  ask 5 (goodLength (length (l .bytes)))
+  ns ← columns (l .bytes)
+  k ← kindOf (d .before) ns
+  p ← lineOfKind (k .found) (d .problem) (k .left)
+  yes (record { before = k .found; problem = p })
+
+-- the first question that fails, with its line, or the problem
+pub data Reading : Type 0 where
+  refused : ℕ → ℕ → Reading
+  accepted : Problem → Reading
+
+unfoldable pub readLines : Draft → ℕ → List Line → Reading
+readLines d n [] = accepted (d .problem)
+readLines d n (l ∷ ls) = elim (readLine d l) [ no q ↦ refused q n | yes e ↦ readLines e (suc n) ls ]
+
+unfoldable pub emptyDraft : Draft
+emptyDraft = record { before = 0; problem = record { constants = 0; arities = []; rules = []; clauses = [] } }
+
+-- 2: at most 16,384 bytes; 3: at least one; then each line from the top
+unfoldable pub read : List ℕ → Reading
+read sheet =
+    elim (leb (length sheet) 16384) [
+      | false ↦ refused 2 0
+      | true ↦ elim (isEmpty sheet) [ true ↦ refused 3 0 | false ↦ readLines emptyDraft 1 (lines sheet) ]
+    ]
+
+-- names every definition of this module, for a theorem that computes with all of them
+unfoldable pub Questions·all : Unit {0}
+unfolding _>>=_ _>>_ ask asNumber columns within count kindOf ruleArgument clauseArgument arguments literal literals patternOf literalOf patterns clauseLiterals inHead restricted withConstants withSymbol withRule withClause constantsLine symbolLine ruleLine clauseLine lineOfKind goodLength readLine readLines emptyDraft read
+Questions·all = tt

@@ -1,0 +1,62 @@
+-- Document 01, "Words": what is said of sheets and calls: accepted, answers, keeps. Assumes nothing.
+use Prim.Native.Nat.{ℕ, _≤_}
+use mathlib.Core.Path.{_≡_}
+use mathlib.Core.Bool.{Bool, true, false, not, _&&_}
+use mathlib.Core.List.{List, [], _∷_, _++_, map}
+use lib.Dec.{eqb}
+use lib.ListN.{take, drop}
+use Rattle.definitions.specs.Lists.{_∈_, keep, joined}
+use Rattle.definitions.specs.Words.{Problem}
+use Rattle.definitions.specs.Sheet.{Line, lines, Number, plus, number, decimal}
+use Rattle.definitions.specs.Questions.{Asked, no, yes, columns, accepted, read}
+use Rattle.definitions.specs.Listing.{answerNumber}
+use Rattle.definitions.specs.Call.{call, listedPart}
+use Rattle.definitions.specs.declared.Verdict.{Verdict}
+use Rattle.definitions.specs.declared.Counts.{Counts}
+use Rattle.definitions.specs.declared.Answer.the-variants.{Answered}
+
+-- a sheet is "accepted" if every question about its bytes, 2 and later ones, is answered yes
+pub record Accepted (sheet : List ℕ) : Type 0 where
+  pub problem : Problem
+  pub reads : read sheet ≡ accepted problem
+
+-- a call "answers" a sheet with one of the four if it hands back that answer, or if it is in the second column of the listing
+pub data Answers (sheet : List ℕ) (budget : ℕ) (room : List ℕ) (v : Verdict) : Type 0 where
+  handsBack : (c : Counts) → call sheet budget room ≡ Answered c → c .verdict ≡ v → Answers sheet budget room v
+  lists : decimal (take 4 (drop 4 (listedPart sheet budget room))) ≡ number (plus (answerNumber v)) → Answers sheet budget room v
+
+-- the numbers of a line
+abbrev pub Row : Type 0
+Row = List Number
+
+unfoldable pub rowOf : Line → Row
+rowOf l = elim (columns (l .bytes)) [ no q ↦ [] | yes ns ↦ ns ]
+
+unfoldable pub isKind : ℕ → Row → Bool
+isKind k [] = false
+isKind k (n ∷ ns) = not (n .negative) && eqb (n .size) k
+
+-- the lines of a kind, from the top
+unfoldable pub ofKind : ℕ → List ℕ → List Row
+ofKind k sheet = keep (isKind k) (map rowOf (lines sheet))
+
+-- the number behind the kind on the first line of kind 1
+unfoldable pub firstSize : Row → ℕ
+firstSize [] = 0
+firstSize (n ∷ ns) = n .size
+
+unfoldable pub constantsOf : List ℕ → ℕ
+constantsOf sheet = firstSize (joined (drop 1) (ofKind 1 sheet))
+
+-- a second sheet "keeps" the first one's constants if it has at least as many, its symbols if they stand under the same
+-- numbers with the same arities, its rules and clauses if each of their lines is there, wherever it stands
+pub record Keeps (first second : List ℕ) : Type 0 where
+  pub constants : constantsOf first ≤ constantsOf second
+  pub symbols : (more : List Row) × (ofKind 2 second ≡ ofKind 2 first ++ more)
+  pub rules : (r : Row) → r ∈ ofKind 3 first → r ∈ ofKind 3 second
+  pub clauses : (r : Row) → r ∈ ofKind 4 first → r ∈ ofKind 4 second
+
+-- names every definition of this module, for a theorem that computes with all of them
+unfoldable pub Sheets·all : Unit {0}
+unfolding rowOf isKind ofKind firstSize constantsOf
+Sheets·all = tt

@@ -1,0 +1,32 @@
+// The answer of a call, as document 01 names it: an answer that carries its own record.
+// What the parts mean stands in specs/: `Call` says which answer a call hands back, and
+// `Answers` gives the paper's number and values for each case.
+
+// Which question was answered no, and at which line: 0 where it is asked of the call.
+pub struct Refusal {
+    pub number: u8,
+    pub line: u16,
+}
+
+// The four answers of the search.
+pub enum Verdict {
+    Unsat,
+    Unknown,
+    Spent,
+    Full,
+}
+
+// The answer with its counts. There may be one conflict more than a 32-bit number holds.
+pub struct Counts {
+    pub verdict: Verdict,
+    pub atoms: u16,
+    pub logged: u16,
+    pub decisions: u32,
+    pub conflicts: u64,
+}
+
+// What a call hands back.
+pub enum Answer {
+    Refused(Refusal),
+    Answered(Counts),
+}

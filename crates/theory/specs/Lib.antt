@@ -1,0 +1,4 @@
+pub mod Tests
+pub mod ListLaws
+pub mod WordLaws
+pub mod Steps

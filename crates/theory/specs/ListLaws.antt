@@ -1,0 +1,219 @@
+-- What the tests and walks over lists find. Assumes nothing.
+use Prim.Native.Nat.{ℕ, zero, suc, _+_, _≤_, _<_}
+use mathlib.Core.Path.{_≡_, refl, sym, _∙_, ap, subst}
+use mathlib.Core.Logic.{_⊎_, inl, inr}
+use mathlib.Core.Bool.{Bool, true, false, not, _&&_, _||_}
+use mathlib.Core.Option.{Option, none, some}
+use mathlib.Core.List.{List, [], _∷_, _++_, map, List·Memᴰ, List·Memᴰ·head, List·Memᴰ·tail, List·Memᴰ·cases-cons, List·Memᴰ·append-cases, List·Memᴰ·not-nil, Memᴰ·append-left, Memᴰ·append-right, Memᴰ·cast}
+use native.Mathlib.Omega.{arith}
+use lib.ListN.{length, length-append}
+use Rattle.definitions.specs.Lists.{_∈_, isEmpty, any, all, keep, firstOf, distinct, allDifferent, listOf, firstSome, joined, upFrom}
+use Rattle.theory.specs.Tests.{by-test, by-option, apart, none≢some}
+
+-- an element of a list that is split
+pub at-split : {A : Type 0} (pre : List A) {x : A} (post : List A) → x ∈ pre ++ (x ∷ post)
+at-split pre post = Memᴰ·append-right pre (List·Memᴰ·head refl)
+
+pub in-along : {A : Type 0} {x : A} {l k : List A} → l ≡ k → x ∈ k → x ∈ l
+in-along {x = x} e m = subst (λ l. x ∈ l) (sym e) m
+
+-- where a list has its element
+pub record Split {A : Type 0} (x : A) (l : List A) : Type 0 where
+  pub before : List A
+  pub after : List A
+  pub split : l ≡ before ++ (x ∷ after)
+
+pub in-split : {A : Type 0} {x : A} {l : List A} → x ∈ l → Split x l
+in-split (List·Memᴰ·head {xs = xs} e) = record { before = []; after = xs; split = ap (λ y. y ∷ xs) (sym e) }
+in-split (List·Memᴰ·tail {x = y} m) =
+    let r = in-split m in
+    record { before = y ∷ r .before; after = r .after; split = ap (λ l. y ∷ l) (r .split) }
+
+module _ {A : Type 0} (p : A → Bool) where
+  -- the first element that passes, and that none before it does
+  pub record First (xs : List A) (x : A) : Type 0 where
+    pub before : List A
+    pub after : List A
+    pub split : xs ≡ before ++ (x ∷ after)
+    pub fail : (y : A) → y ∈ before → p y ≡ false
+    pub pass : p x ≡ true
+
+  pub firstOf-first : (xs : List A) (x : A) → firstOf p xs ≡ some x → First xs x
+  unfolding firstOf
+  firstOf-first [] x h = none≢some h
+  firstOf-first (y ∷ ys) x h =
+      by-test (p y)
+      (λ e. record { before = []; after = ys; split = cc; fail = λ z m. absurd (List·Memᴰ·not-nil m); pass = cc })
+      (λ e. let f = firstOf-first ys x (cc) in record { before = y ∷ f .before; after = f .after; split = cc; fail = λ z m. elim (List·Memᴰ·cases-cons m) [ inl q ↦ cc | inr n ↦ f .fail z n ]; pass = f .pass })
+
+  pub firstOf-in : (xs : List A) (x : A) → firstOf p xs ≡ some x → x ∈ xs
+  firstOf-in xs x h = let f = firstOf-first xs x h in in-along (f .split) (at-split (f .before) (f .after))
+
+  pub firstOf-passes : (xs : List A) (x : A) → firstOf p xs ≡ some x → p x ≡ true
+  firstOf-passes xs x h = firstOf-first xs x h .pass
+
+  pub firstOf-none : (xs : List A) → firstOf p xs ≡ none → (x : A) → x ∈ xs → p x ≡ false
+  unfolding firstOf
+  firstOf-none [] h x m = absurd (List·Memᴰ·not-nil m)
+  firstOf-none (y ∷ ys) h x (List·Memᴰ·head q) = by-test (p y) (λ e. apart (cc)) (λ e. cc)
+  firstOf-none (y ∷ ys) h x (List·Memᴰ·tail m) = by-test (p y) (λ e. apart (cc)) (λ e. firstOf-none ys (cc) x m)
+
+  pub any-some : (xs : List A) → any p xs ≡ true → (x : A) × (x ∈ xs) × (p x ≡ true)
+  unfolding any
+  any-some [] h = apart (cc)
+  any-some (y ∷ ys) h =
+      by-test (p y)
+      (λ e. (y, List·Memᴰ·head refl, e))
+      (λ e. let (x, m, q) = any-some ys (cc) in (x, List·Memᴰ·tail m, q))
+
+  pub any-of : (xs : List A) (x : A) → x ∈ xs → p x ≡ true → any p xs ≡ true
+  unfolding any
+  any-of (y ∷ ys) x (List·Memᴰ·head q) h = cc
+  any-of (y ∷ ys) x (List·Memᴰ·tail m) h = by-test (p y) (λ e. cc) (λ e. cc (any-of ys x m h))
+
+  pub any-none : (xs : List A) → any p xs ≡ false → (x : A) → x ∈ xs → p x ≡ false
+  any-none xs h x m = by-test (p x) (λ e. cc (any-of xs x m e)) (λ e. e)
+
+  pub none-any : (xs : List A) → ((x : A) → x ∈ xs → p x ≡ false) → any p xs ≡ false
+  none-any xs h = by-test (any p xs) (λ e. let (x, m, q) = any-some xs e in cc (h x m)) (λ e. e)
+
+  pub all-each : (xs : List A) → all p xs ≡ true → (x : A) → x ∈ xs → p x ≡ true
+  unfolding all
+  all-each (y ∷ ys) h x (List·Memᴰ·head q) = by-test (p y) (λ e. cc) (λ e. cc)
+  all-each (y ∷ ys) h x (List·Memᴰ·tail m) = by-test (p y) (λ e. all-each ys (cc) x m) (λ e. cc)
+
+  pub all-of : (xs : List A) → ((x : A) → x ∈ xs → p x ≡ true) → all p xs ≡ true
+  unfolding all
+  all-of [] h = refl
+  all-of (y ∷ ys) h = cc (h y (List·Memᴰ·head refl), all-of ys (λ x m. h x (List·Memᴰ·tail m)))
+
+  pub keep-of : (xs : List A) (x : A) → x ∈ xs → p x ≡ true → x ∈ keep p xs
+  unfolding keep
+  keep-of (y ∷ ys) x (List·Memᴰ·head q) h =
+      let e : p y ≡ true = cc in
+      rw (e, keep) (List·Memᴰ·head q)
+  keep-of (y ∷ ys) x (List·Memᴰ·tail m) h =
+      by-test (p y) (λ e. rw (e, keep) (List·Memᴰ·tail (keep-of ys x m h))) (λ e. rw (e, keep) (keep-of ys x m h))
+
+  pub keep-in : (xs : List A) (x : A) → x ∈ keep p xs → (x ∈ xs) × (p x ≡ true)
+  unfolding keep
+  keep-in [] x m = absurd (List·Memᴰ·not-nil m)
+  keep-in (y ∷ ys) x m =
+      by-test (p y)
+      (λ e. elim (List·Memᴰ·cases-cons (rw (e, keep) at m)) [
+        | inl q ↦ (List·Memᴰ·head q, cc)
+        | inr n ↦ let (k, h) = keep-in ys x n in (List·Memᴰ·tail k, h)
+      ])
+      (λ e. let (k, h) = keep-in ys x (rw (e, keep) at m) in (List·Memᴰ·tail k, h))
+
+  pub keep-length : (xs : List A) → length (keep p xs) ≤ length xs
+  unfolding keep
+  keep-length [] = omega arith
+  keep-length (y ∷ ys) =
+      let h = keep-length ys in
+      by-test (p y) (λ e. rw (e, keep) (omega arith)) (λ e. rw (e, keep) (omega arith))
+
+  pub keep-append : (xs ys : List A) → keep p (xs ++ ys) ≡ keep p xs ++ keep p ys
+  unfolding keep
+  keep-append [] ys = refl
+  keep-append (x ∷ xs) ys = let h = keep-append xs ys in by-test (p x) (λ e. cc) (λ e. cc)
+
+  pub keep-all : (xs : List A) → ((x : A) → x ∈ xs → p x ≡ true) → keep p xs ≡ xs
+  unfolding keep
+  keep-all [] h = refl
+  keep-all (x ∷ xs) h = cc (h x (List·Memᴰ·head refl), keep-all xs (λ y m. h y (List·Memᴰ·tail m)))
+
+  pub keep-none : (xs : List A) → ((x : A) → x ∈ xs → p x ≡ false) → keep p xs ≡ []
+  unfolding keep
+  keep-none [] h = refl
+  keep-none (x ∷ xs) h = cc (h x (List·Memᴰ·head refl), keep-none xs (λ y m. h y (List·Memᴰ·tail m)))
+
+module _ {A B : Type 0} (f : A → Option B) where
+  pub firstSome-in : (xs : List A) (b : B) → firstSome f xs ≡ some b → (x : A) × (x ∈ xs) × (f x ≡ some b)
+  unfolding firstSome
+  firstSome-in [] b h = none≢some h
+  firstSome-in (y ∷ ys) b h =
+      by-option (f y)
+      (λ e. let (x, m, q) = firstSome-in ys b (cc) in (x, List·Memᴰ·tail m, q))
+      (λ c e. (y, List·Memᴰ·head refl, cc))
+
+  pub firstSome-none : (xs : List A) → firstSome f xs ≡ none → (x : A) → x ∈ xs → f x ≡ none
+  unfolding firstSome
+  firstSome-none [] h x m = absurd (List·Memᴰ·not-nil m)
+  firstSome-none (y ∷ ys) h x (List·Memᴰ·head q) = by-option (f y) (λ e. cc) (λ b e. apart (cc))
+  firstSome-none (y ∷ ys) h x (List·Memᴰ·tail m) = by-option (f y) (λ e. firstSome-none ys (cc) x m) (λ b e. apart (cc))
+
+module _ {A B : Type 0} (f : A → List B) where
+  pub joined-of : (xs : List A) (x : A) (y : B) → x ∈ xs → y ∈ f x → y ∈ joined f xs
+  unfolding joined
+  joined-of (z ∷ zs) x y (List·Memᴰ·head q) n = Memᴰ·append-left (joined f zs) (rw q at n)
+  joined-of (z ∷ zs) x y (List·Memᴰ·tail m) n = Memᴰ·append-right (f z) (joined-of zs x y m n)
+
+  pub joined-in : (xs : List A) (y : B) → y ∈ joined f xs → (x : A) × (x ∈ xs) × (y ∈ f x)
+  unfolding joined
+  joined-in [] y m = absurd (List·Memᴰ·not-nil m)
+  joined-in (z ∷ zs) y m =
+      elim (List·Memᴰ·append-cases (f z) m) [
+        | inl n ↦ (z, List·Memᴰ·head refl, n)
+        | inr n ↦ let (x, k, j) = joined-in zs y n in (x, List·Memᴰ·tail k, j)
+      ]
+
+  pub joined-append : (xs ys : List A) → joined f (xs ++ ys) ≡ joined f xs ++ joined f ys
+  unfolding joined
+  joined-append [] ys = refl
+  joined-append (x ∷ xs) ys = cc (joined-append xs ys, mathlib.Core.List.append-assoc (f x) (joined f xs) (joined f ys))
+
+module _ {A : Type 0} (same : A → A → Bool) where
+  pub distinct-in : (xs : List A) (x : A) → x ∈ distinct same xs → x ∈ xs
+  unfolding distinct
+  distinct-in [] x m = absurd (List·Memᴰ·not-nil m)
+  distinct-in (y ∷ ys) x m =
+      elim (List·Memᴰ·cases-cons m) [
+        | inl q ↦ List·Memᴰ·head q
+        | inr n ↦ List·Memᴰ·tail (distinct-in ys x (keep-in _ (distinct same ys) x n .0))
+      ]
+
+  pub distinct-length : (xs : List A) → length (distinct same xs) ≤ length xs
+  unfolding distinct
+  distinct-length [] = omega arith
+  distinct-length (y ∷ ys) = omega (arith, distinct-length ys, keep-length (λ x. not (same y x)) (distinct same ys))
+
+  module _ (eq : (x y : A) → same x y ≡ true → x ≡ y) where
+    pub distinct-of : (xs : List A) (x : A) → x ∈ xs → x ∈ distinct same xs
+    unfolding distinct
+    distinct-of (y ∷ ys) x (List·Memᴰ·head q) = List·Memᴰ·head q
+    distinct-of (y ∷ ys) x (List·Memᴰ·tail m) =
+        by-test (same y x)
+        (λ e. List·Memᴰ·head (sym (eq y x e)))
+        (λ e. List·Memᴰ·tail (keep-of _ (distinct same ys) x (distinct-of ys x m) (cc)))
+
+-- no element stands twice
+abbrev pub Different : {A : Type 0} → List A → Type 0
+Different [] = Unit {0}
+Different (x ∷ xs) = (x ∈ xs → ⊥) × Different xs
+
+pub different-more : {A : Type 0} (l : List A) (x : A) → Different l → (x ∈ l → ⊥) → Different (l ++ (x ∷ []))
+different-more [] x d n = (λ m. List·Memᴰ·not-nil m, tt)
+different-more (y ∷ l) x d n = (
+  λ m. elim (List·Memᴰ·append-cases l m) [
+    | inl k ↦ d .0 k
+    | inr k ↦ n (List·Memᴰ·head (sym (mathlib.Core.List.List·Memᴰ·eq-of-singleton k)))
+  ],
+  different-more l x (d .1) (λ m. n (List·Memᴰ·tail m)),
+)
+
+-- different elements of a list are no more than its elements
+module _ {A : Type 0} where
+  without : {a b : A} (p r : List A) → (b ≡ a → ⊥) → b ∈ p ++ (a ∷ r) → b ∈ p ++ r
+  without p r d m =
+      elim (List·Memᴰ·append-cases p m) [
+        | inl n ↦ Memᴰ·append-left r n
+        | inr n ↦ elim (List·Memᴰ·cases-cons n) [ inl e ↦ absurd (d e) | inr k ↦ Memᴰ·append-right p k ]
+      ]
+
+  pub pigeonhole : (xs ys : List A) → Different xs → ((x : A) → x ∈ xs → x ∈ ys) → length xs ≤ length ys
+  pigeonhole [] ys d h = omega arith
+  pigeonhole (x ∷ xs) ys d h =
+      let s = in-split (h x (List·Memᴰ·head refl)) in
+      let below : length xs ≤ length (s .before ++ s .after) = pigeonhole xs (s .before ++ s .after) (d .1) (λ y m. without (s .before) (s .after) (λ e. d .0 (Memᴰ·cast (sym e) m)) (subst (λ l. y ∈ l) (s .split) (h y (List·Memᴰ·tail m)))) in
+      omega (arith, below, length-append (s .before) (s .after), length-append (s .before) (x ∷ s .after), ap length (s .split))
