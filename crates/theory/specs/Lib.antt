@@ -3,3 +3,15 @@ pub mod ListLaws
 pub mod WordLaws
 pub mod Steps
 pub mod SearchLaws
+pub mod Ends
+pub mod Counts
+pub mod Trail
+pub mod Choices
+pub mod Unknown
+pub mod Answers
+pub mod InstanceLaws
+pub mod Larger
+pub mod AskedLaws
+pub mod Reading
+pub mod Inclusion
+pub mod Sources

@@ -4,7 +4,7 @@ use mathlib.Core.Path.{_≡_, refl, sym, _∙_, ap, subst}
 use mathlib.Core.Logic.{_⊎_, inl, inr}
 use mathlib.Core.Bool.{Bool, true, false, not, _&&_, _||_}
 use mathlib.Core.Option.{Option, none, some}
-use mathlib.Core.List.{List, [], _∷_, _++_, map, List·Memᴰ, List·Memᴰ·head, List·Memᴰ·tail, List·Memᴰ·cases-cons, List·Memᴰ·append-cases, List·Memᴰ·not-nil, Memᴰ·append-left, Memᴰ·append-right, Memᴰ·cast}
+use mathlib.Core.List.{List, [], _∷_, _++_, map, List·Memᴰ, List·Memᴰ·head, List·Memᴰ·tail, List·Memᴰ·cases-cons, List·Memᴰ·append-cases, List·Memᴰ·not-nil, Memᴰ·append-left, Memᴰ·append-right, Memᴰ·cast, head-eq-of-cons-eq, tail-eq-of-cons-eq}
 use native.Mathlib.Omega.{arith}
 use lib.ListN.{length, length-append}
 use Rattle.definitions.specs.Lists.{_∈_, isEmpty, any, all, keep, firstOf, distinct, allDifferent, listOf, firstSome, joined, upFrom}
@@ -217,3 +217,26 @@ module _ {A : Type 0} where
       let s = in-split (h x (List·Memᴰ·head refl)) in
       let below : length xs ≤ length (s .before ++ s .after) = pigeonhole xs (s .before ++ s .after) (d .1) (λ y m. without (s .before) (s .after) (λ e. d .0 (Memᴰ·cast (sym e) m)) (subst (λ l. y ∈ l) (s .split) (h y (List·Memᴰ·tail m)))) in
       omega (arith, below, length-append (s .before) (s .after), length-append (s .before) (x ∷ s .after), ap length (s .split))
+
+-- something holds of every element, or the other thing is found
+pub all-or-else : {A : Type 0} (P : A → Type 0) {F : Type 0} (xs : List A) → ((x : A) → x ∈ xs → P x ⊎ F) → ((x : A) → x ∈ xs → P x) ⊎ F
+all-or-else P [] h = inl (λ x m. absurd (List·Memᴰ·not-nil m))
+all-or-else P (y ∷ ys) h =
+    elim (h y (List·Memᴰ·head refl)) [
+      | inl p ↦ elim (all-or-else P ys (λ x m. h x (List·Memᴰ·tail m))) [
+        | inl ps ↦ inl (λ x m. elim (List·Memᴰ·cases-cons m) [ inl q ↦ subst P (sym q) p | inr n ↦ ps x n ])
+        | inr f ↦ inr f
+      ]
+      | inr f ↦ inr f
+    ]
+
+-- two splits of one list
+pub splits : {A : Type 0} (p q : List A) {a b : A} (r s : List A) → p ++ (a ∷ r) ≡ q ++ (b ∷ s) → (b ∈ p) ⊎ ((a ≡ b) ⊎ (a ∈ q))
+splits [] [] r s e = inr (inl (head-eq-of-cons-eq e))
+splits [] (y ∷ q) r s e = inr (inr (List·Memᴰ·head (head-eq-of-cons-eq e)))
+splits (x ∷ p) [] r s e = inl (List·Memᴰ·head (sym (head-eq-of-cons-eq e)))
+splits (x ∷ p) (y ∷ q) r s e =
+    elim (splits p q r s (tail-eq-of-cons-eq e)) [
+      | inl m ↦ inl (List·Memᴰ·tail m)
+      | inr c ↦ elim c [ inl h ↦ inr (inl h) | inr m ↦ inr (inr (List·Memᴰ·tail m)) ]
+    ]

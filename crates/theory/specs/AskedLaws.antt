@@ -1,0 +1,195 @@
+-- What an accepted walk over columns says, and that it accepts the same with more constants and more symbols. Assumes nothing.
+use Prim.Native.Nat.{ℕ, zero, suc, _-_, _≤_, _<_}
+use mathlib.Core.Path.{_≡_, refl, ap}
+use mathlib.Core.Bool.{Bool, true, false, not, _&&_}
+use mathlib.Core.List.{List, [], _∷_, _++_}
+use native.Mathlib.Omega.{arith}
+use lib.Dec.{leb}
+use lib.ListN.{length, length-append, getD, List·getD-append}
+use borrow.Author.Tests.{leb-true, le-leb}
+use Rattle.definitions.specs.Lists.{isEmpty}
+use Rattle.definitions.specs.Words.{constant, Rule, Clause}
+use Rattle.definitions.specs.Sheet.{Number}
+use Rattle.definitions.specs.Questions.{Asked, no, yes, _>>=_, _>>_, ask, Walk, within, count, ruleArgument, clauseArgument, arguments, literal, literals, patternOf, literalOf, restricted}
+use Rattle.theory.specs.Tests.{by-test, apart, not-true, and-left, and-right, and-intro}
+
+-- ── every question of an accepted chain is answered yes ──
+
+no≢yes : {A : Type 0} {q : ℕ} {a : A} {C : Type 0} → _≡_ {A = Asked A} (no q) (yes a) → C
+no≢yes e = apart (cc)
+
+pub yes-injective : {A : Type 0} {a b : A} → _≡_ {A = Asked A} (yes a) (yes b) → a ≡ b
+yes-injective e = cc
+
+pub by-asked : {A : Type 0} (m : Asked A) {C : Type 0} → ((q : ℕ) → m ≡ no q → C) → ((a : A) → m ≡ yes a → C) → C
+by-asked (no q) n y = n q refl
+by-asked (yes a) n y = y a refl
+
+pub bind-yes : {A B : Type 0} (m : Asked A) (f : A → Asked B) (b : B) → (m >>= f) ≡ yes b → (a : A) × (m ≡ yes a) × (f a ≡ yes b)
+unfolding _>>=_
+bind-yes (no q) f b e = no≢yes e
+bind-yes (yes a) f b e = (a, refl, e)
+
+pub ask-yes : {A : Type 0} (q : ℕ) (t : Bool) (m : Asked A) (a : A) → (ask q t >> m) ≡ yes a → (t ≡ true) × (m ≡ yes a)
+unfolding _>>_ ask
+ask-yes q true m a e = (refl, e)
+ask-yes q false m a e = no≢yes e
+
+-- and a chain of answers yes is accepted
+pub yes-bind : {A B : Type 0} (m : Asked A) (f : A → Asked B) (a : A) (b : B) → m ≡ yes a → f a ≡ yes b → (m >>= f) ≡ yes b
+unfolding _>>=_
+yes-bind m f a b e h = cc
+
+pub yes-ask : {A : Type 0} (q : ℕ) (t : Bool) (m : Asked A) (a : A) → t ≡ true → m ≡ yes a → (ask q t >> m) ≡ yes a
+unfolding _>>_ ask
+yes-ask q t m a e h = cc
+
+-- ── a column that holds a count ──
+
+-- the column is the first one, and its number is what was found
+pub record Counted (low high : ℕ) (ns : List Number) (w : Walk ℕ) : Type 0 where
+  pub column : Number
+  pub split : ns ≡ column ∷ w .left
+  pub size : column .size ≡ w .found
+  pub sign : column .negative ≡ false
+  pub least : low ≤ w .found
+  pub most : w .found ≤ high
+
+pub count-yes : (q low high : ℕ) (ns : List Number) (w : Walk ℕ) → count q low high ns ≡ yes w → Counted low high ns w
+unfolding count within
+count-yes q low high [] w e = no≢yes e
+count-yes q low high (n ∷ ns) w e =
+    let (t, f) = ask-yes q (within low high n) _ w e in
+    let same = yes-injective f in
+    let size : n .size ≡ w .found = ap (λ (v : Walk ℕ). v .found) same in
+    let left : ns ≡ w .left = ap (λ (v : Walk ℕ). v .left) same in
+    let inner : (not (n .negative) && leb low (n .size)) ≡ true = and-left (not (n .negative) && leb low (n .size)) (leb (n .size) high) t in
+    let l = leb-true low (n .size) (and-right (not (n .negative)) (leb low (n .size)) inner) in
+    let m = leb-true (n .size) high (and-right (not (n .negative) && leb low (n .size)) (leb (n .size) high) t) in
+    record {
+      column = n;
+      split = cc;
+      size = size;
+      sign = not-true (n .negative) (and-left (not (n .negative)) (leb low (n .size)) inner);
+      least = rw size at l;
+      most = rw size at m;
+    }
+
+-- ── more constants and more symbols ──
+
+-- whatever the first accepts, the second accepts with the same value
+abbrev pub Accepts : {A : Type 0} → Asked A → Asked A → Type 0
+Accepts {A} m m′ = (a : A) → m ≡ yes a → m′ ≡ yes a
+
+module _ {A B : Type 0} {m m′ : Asked A} {f f′ : A → Asked B} where
+  bind-accepts : Accepts m m′ → ((a : A) → Accepts (f a) (f′ a)) → Accepts (m >>= f) (m′ >>= f′)
+  bind-accepts first then b e = let (a, p, h) = bind-yes m f b e in yes-bind m′ f′ a b (first a p) (then a b h)
+
+module _ {A : Type 0} (q : ℕ) {t t′ : Bool} {m m′ : Asked A} where
+  ask-accepts : (t ≡ true → t′ ≡ true) → (t ≡ true → Accepts m m′) → Accepts (ask q t >> m) (ask q t′ >> m′)
+  ask-accepts first then a e = let (p, h) = ask-yes q t m a e in yes-ask q t′ m′ a (first p) (then p a h)
+
+module _ {A : Type 0} (f g : Number → Asked A) (accepts : (n : Number) → Accepts (f n) (g n)) where
+  arguments-accepts : (k : ℕ) (ns : List Number) → Accepts (arguments f k ns) (arguments g k ns)
+  unfolding arguments
+  arguments-accepts zero ns = λ w e. e
+  arguments-accepts (suc k) [] = λ w e. no≢yes e
+  arguments-accepts (suc k) (n ∷ ns) = bind-accepts (accepts n) (λ a. bind-accepts (arguments-accepts k ns) (λ w v e. e))
+
+  -- the symbols of the first list have the same arities in the longer one
+  module _ {L : Type 0} (make : Bool → ℕ → List A → L) (arities more : List ℕ) where
+    literal-accepts : (ns : List Number) → Accepts (literal f make arities ns) (literal g make (arities ++ more) ns)
+    unfolding literal
+    literal-accepts [] = λ w e. no≢yes e
+    literal-accepts (n ∷ ns) = ask-accepts 10 declared (λ t. bind-accepts (same t) (λ w v e. e))
+      where
+        least : (leb 1 (n .size) && leb (n .size) (length arities)) ≡ true → 1 ≤ n .size
+        least t = leb-true 1 (n .size) (and-left (leb 1 (n .size)) (leb (n .size) (length arities)) t)
+
+        most : (leb 1 (n .size) && leb (n .size) (length arities)) ≡ true → n .size ≤ length arities
+        most t = leb-true (n .size) (length arities) (and-right (leb 1 (n .size)) (leb (n .size) (length arities)) t)
+
+        declared : (leb 1 (n .size) && leb (n .size) (length arities)) ≡ true → (leb 1 (n .size) && leb (n .size) (length (arities ++ more))) ≡ true
+        declared t =
+            and-intro (leb 1 (n .size)) (leb (n .size) (length (arities ++ more)))
+            (le-leb 1 (n .size) (least t))
+            (le-leb (n .size) (length (arities ++ more)) (omega (arith, most t, length-append arities more)))
+
+        same : (leb 1 (n .size) && leb (n .size) (length arities)) ≡ true
+            → Accepts (arguments f (getD arities (n .size - 1) 0) ns) (arguments g (getD (arities ++ more) (n .size - 1) 0) ns)
+        same t =
+            let below : n .size - 1 < length arities = omega (arith, least t, most t) in
+            rw (List·getD-append arities more 0 (n .size - 1) below) (arguments-accepts (getD arities (n .size - 1) 0) ns)
+
+    literals-accepts : (k : ℕ) (ns : List Number) → Accepts (literals f make arities k ns) (literals g make (arities ++ more) k ns)
+    unfolding literals
+    literals-accepts zero ns = λ w e. e
+    literals-accepts (suc k) ns = bind-accepts (literal-accepts ns) (λ l. bind-accepts (literals-accepts k (l .left)) (λ w v e. e))
+
+-- ── rules and clauses ──
+
+leb-accepts : (s c d : ℕ) → c ≤ d → leb s c ≡ true → leb s d ≡ true
+leb-accepts s c d h t = le-leb s d (omega (arith, h, leb-true s c t))
+
+and-accepts : (a b c : Bool) → (b ≡ true → c ≡ true) → (a && b) ≡ true → (a && c) ≡ true
+and-accepts a b c h t = and-intro a c (and-left a b t) (h (and-right a b t))
+
+ruleArgument-accepts : (c d : ℕ) → c ≤ d → (n : Number) → Accepts (ruleArgument c n) (ruleArgument d n)
+unfolding ruleArgument
+ruleArgument-accepts c d h n a e =
+    by-test (n .negative)
+    (λ s.
+    let old : (ask 10 (leb 1 (n .size) && leb (n .size) c) >> yes (constant (n .size))) ≡ yes a = cc in
+    cc (ask-accepts 10 (and-accepts (leb 1 (n .size)) (leb (n .size) c) (leb (n .size) d) (leb-accepts (n .size) c d h)) (λ t a e. e) a old))
+    (λ s. cc)
+
+clauseArgument-accepts : (c d : ℕ) → c ≤ d → (n : Number) → Accepts (clauseArgument c n) (clauseArgument d n)
+unfolding clauseArgument within
+clauseArgument-accepts c d h n =
+    ask-accepts 10
+    (and-accepts (not (n .negative) && leb 1 (n .size)) (leb (n .size) c) (leb (n .size) d) (leb-accepts (n .size) c d h))
+    (λ t a e. e)
+
+-- the rule of a line of kind 3, from the columns behind the kind
+unfoldable pub readRule : ℕ → List ℕ → List Number → Asked Rule
+readRule constants arities ns = do
+  headCount ← count 8 1 3 ns
+  bodyCount ← count 8 0 2 (headCount .left)
+  heads ← literals (ruleArgument constants) patternOf arities (headCount .found) (bodyCount .left)
+  body ← literals (ruleArgument constants) patternOf arities (bodyCount .found) (heads .left)
+  ask 11 (isEmpty (body .left))
+  let r : Rule = record { heads = heads .found; body = body .found }
+  ask 12 (restricted r)
+  yes r
+
+-- the clause of a line of kind 4
+unfoldable pub readClause : ℕ → List ℕ → List Number → Asked Clause
+readClause constants arities ns = do
+  literalCount ← count 8 0 8 ns
+  c ← literals (clauseArgument constants) literalOf arities (literalCount .found) (literalCount .left)
+  ask 11 (isEmpty (c .left))
+  yes (c .found)
+
+-- a line reads the same with more constants and with more symbols behind those that there are
+module _ (constants more : ℕ) (arities others : List ℕ) (h : constants ≤ more) where
+  pub readRule-accepts : (ns : List Number) → Accepts (readRule constants arities ns) (readRule more (arities ++ others) ns)
+  unfolding readRule
+  readRule-accepts ns =
+      bind-accepts (λ w e. e)
+      (λ headCount. bind-accepts (λ w e. e)
+      (λ bodyCount. bind-accepts (walk (headCount .found) (bodyCount .left))
+      (λ heads. bind-accepts (walk (bodyCount .found) (heads .left)) (λ body r e. e))))
+    where
+      walk : (k : ℕ) (ns : List Number)
+          → Accepts (literals (ruleArgument constants) patternOf arities k ns) (literals (ruleArgument more) patternOf (arities ++ others) k ns)
+      walk = literals-accepts (ruleArgument constants) (ruleArgument more) (ruleArgument-accepts constants more h) patternOf arities others
+
+  pub readClause-accepts : (ns : List Number) → Accepts (readClause constants arities ns) (readClause more (arities ++ others) ns)
+  unfolding readClause
+  readClause-accepts ns =
+      bind-accepts (λ w e. e)
+      (λ literalCount. bind-accepts (walk (literalCount .found) (literalCount .left)) (λ c r e. e))
+    where
+      walk : (k : ℕ) (ns : List Number)
+          → Accepts (literals (clauseArgument constants) literalOf arities k ns) (literals (clauseArgument more) literalOf (arities ++ others) k ns)
+      walk = literals-accepts (clauseArgument constants) (clauseArgument more) (clauseArgument-accepts constants more h) literalOf arities others

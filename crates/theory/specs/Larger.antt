@@ -1,0 +1,129 @@
+-- Demand 3 on problems: more clauses, rules and constants only add clauses and instances, so what makes every choice fail in
+-- the smaller problem makes every choice fail in the larger, and no assignment satisfies the larger. Assumes nothing.
+use Prim.Native.Nat.{ℕ, zero, suc, _≤_}
+use mathlib.Core.Path.{_≡_, refl, sym, ap, subst, _∙_}
+use mathlib.Core.Logic.{_⊎_, inl, inr}
+use mathlib.Core.Bool.{Bool, true, false}
+use mathlib.Core.List.{List, [], _∷_, _++_, map, cons≢nil, Memᴰ·map, Memᴰ·of-map}
+use Rattle.definitions.specs.Lists.{_∈_}
+use Rattle.definitions.specs.Words.{Atom, Literal, negate, Clause, Pattern, Rule, Problem, goalAtoms}
+use Rattle.definitions.specs.Instances.{Substitution, ground, variables, substitutions, Instance, instancesFrom, Task, taskOf}
+use Rattle.definitions.specs.Meaning.{Assignment, Choice, Makes, Closure, chosen, derived, Clash, bothSigns, falseBody, Breaks, Fails, SatisfiesClause, SatisfiesFilling, headFalse, bodyTrue, Satisfies}
+use Rattle.definitions.specs.Search.{State, done, searchTask, search}
+use Rattle.definitions.specs.declared.Verdict.the-variants.{Unsat, Unknown}
+use Rattle.theory.specs.WordLaws.{makes-not-both, goal-of, GoalFrom, goal-from}
+use Rattle.theory.specs.InstanceLaws.{substitutions-more, Found, Filled, instance-filled, filled-instance}
+use Rattle.theory.specs.Unknown.{setting}
+use Rattle.theory.specs.Answers.{unsat-means, unknown-means}
+
+-- ── tasks ──
+
+-- the clauses and instances of one task are among those of another
+pub record Among (k m : Task) : Type 0 where
+  pub clauses : (c : Clause) → c ∈ k .clauses → c ∈ m .clauses
+  pub instances : (i : Instance) → i ∈ k .instances → Found i (m .instances)
+
+module _ (k m : Task) (among : Among k m) (σ : Choice) where
+  goal-among : (a : Atom) → a ∈ goalAtoms (k .clauses) → a ∈ goalAtoms (m .clauses)
+  goal-among a i =
+      let f = goal-from (k .clauses) a i in
+      subst (λ (x : Atom). x ∈ goalAtoms (m .clauses)) (f .atom) (goal-of (m .clauses) (f .clause) (f .literal) (among .clauses (f .clause) (f .its)) (f .inside))
+
+  closure-among : {l : Literal} → Closure k σ l → Closure m σ l
+  closure-among {l} (chosen i y) = chosen (goal-among (l .atom) i) y
+  closure-among {l} (derived i n hs b) =
+      let f = among .instances i n in
+      derived (f .instance) (f .inside) (λ h j. closure-among (hs h (subst (λ ls. h ∈ ls) (f .heads) j))) (subst (λ ls. l ∈ ls) (sym (f .body)) b)
+
+  -- a choice that fails on some of the clauses and instances fails on all of them
+  pub fails-among : Fails k σ → Fails m σ
+  fails-among (inl f) = inl (record { clause = f .clause; inside = among .clauses (f .clause) (f .inside); allFalse = f .allFalse })
+  fails-among (inr (bothSigns l p q)) = inr (bothSigns l (closure-among p) (closure-among q))
+  fails-among (inr (falseBody i n hs e)) =
+      let f = among .instances i n in
+      inr (falseBody (f .instance) (f .inside) (λ h j. closure-among (hs h (subst (λ ls. h ∈ ls) (f .heads) j))) (f .body ∙ e))
+
+-- ── assignments that satisfy ──
+
+-- an assignment makes the heads of an instance only with its body, which then isn't false
+pub record Respects (v : Assignment) (k : Task) : Type 0 where
+  pub clauses : (c : Clause) → c ∈ k .clauses → SatisfiesClause v c
+  pub instances : (i : Instance) → i ∈ k .instances → ((h : Literal) → h ∈ i .heads → Makes v h)
+      → (i .body ≡ [] → ⊥) × ((l : Literal) → l ∈ i .body → Makes v l)
+
+module _ (k : Task) (v : Assignment) (r : Respects v k) where
+  closure-made : {l : Literal} → Closure k v l → Makes v l
+  closure-made (chosen i y) = y
+  closure-made {l} (derived i n hs b) = r .instances i n (λ h j. closure-made (hs h j)) .1 l b
+
+  -- taken as a choice it does not fail
+  pub respects-holds : Fails k v → ⊥
+  respects-holds (inl f) = let c = r .clauses (f .clause) (f .inside) in makes-not-both v (c .literal) (c .holds) (f .allFalse (c .literal) (c .inside))
+  respects-holds (inr (bothSigns l p q)) = makes-not-both v l (closure-made p) (closure-made q)
+  respects-holds (inr (falseBody i n hs e)) = r .instances i n (λ h j. closure-made (hs h j)) .0 e
+
+-- UNSAT on some of the clauses and instances: the whole is never answered UNKNOWN
+pub among-never-unknown : (k m : Task) → Among k m → (b c : ℕ) (s u : State) → searchTask k b ≡ done Unsat s → searchTask m c ≡ done Unknown u → ⊥
+among-never-unknown k m among b c s u e f =
+    unknown-means m c u f .neither (fails-among k m among (setting (u .trail)) (unsat-means k b s e (setting (u .trail))))
+
+-- and no assignment respects the whole
+pub among-unsatisfiable : (k m : Task) → Among k m → (b : ℕ) (s : State) → searchTask k b ≡ done Unsat s → (v : Assignment) → Respects v m → ⊥
+among-unsatisfiable k m among b s e v r = respects-holds m v r (fails-among k m among v (unsat-means k b s e v))
+
+-- ── problems ──
+
+-- one problem holds another: at least as many constants, the same symbols first, each rule and each clause
+pub record Includes (p q : Problem) : Type 0 where
+  pub constants : p .constants ≤ q .constants
+  pub arities : (more : List ℕ) × (q .arities ≡ p .arities ++ more)
+  pub rules : (r : Rule) → r ∈ p .rules → r ∈ q .rules
+  pub clauses : (c : Clause) → c ∈ p .clauses → c ∈ q .clauses
+
+pub includes-among : (p q : Problem) → Includes p q → Among (taskOf p) (taskOf q)
+unfolding taskOf
+includes-among p q w =
+    record {
+      clauses = w .clauses;
+      instances = λ i m. let f = instance-filled (p .constants) 1 (p .rules) i m in
+          filled-instance (q .constants) 1 (q .rules) i (record {
+            rule = f .rule;
+            its = w .rules (f .rule) (f .its);
+            filling = f .filling;
+            inside = substitutions-more (p .constants) (q .constants) (w .constants) (variables (f .rule)) (f .filling) (f .inside);
+            heads = f .heads;
+            body = f .body;
+            proper = f .proper;
+          });
+    }
+
+map-nil : {A B : Type 0} (g : A → B) (l : List A) → map g l ≡ [] → l ≡ []
+map-nil g [] e = refl
+map-nil g (x ∷ xs) e = absurd (cons≢nil e)
+
+-- an assignment that satisfies every filling respects every instance
+pub satisfies-respects : (v : Assignment) (p : Problem) → Satisfies v p → Respects v (taskOf p)
+unfolding taskOf
+satisfies-respects v p w = record { clauses = w .clauses; instances = λ i m hs. respected i (instance-filled (p .constants) 1 (p .rules) i m) hs }
+  where
+    filled : (i : Instance) (f : Filled (p .constants) (p .rules) i) → SatisfiesFilling v (f .rule) (f .filling) → ((h : Literal) → h ∈ i .heads → Makes v h)
+        → (i .body ≡ [] → ⊥) × ((l : Literal) → l ∈ i .body → Makes v l)
+    filled i f (headFalse x m n) hs =
+        absurd (makes-not-both v (ground (f .filling) x) (hs (ground (f .filling) x) (subst (λ ls. ground (f .filling) x ∈ ls) (sym (f .heads)) (Memᴰ·map (ground (f .filling)) m))) n)
+    filled i f (bodyTrue ne bs) hs = (
+      λ e. ne (map-nil (ground (f .filling)) (f .rule .body) (sym (f .body) ∙ e)),
+      λ l m. let (x, n, q) = Memᴰ·of-map (ground (f .filling)) (f .rule .body) (subst (λ ls. l ∈ ls) (f .body) m) in subst (Makes v) q (bs x n),
+    )
+
+    respected : (i : Instance) (f : Filled (p .constants) (p .rules) i) → ((h : Literal) → h ∈ i .heads → Makes v h)
+        → (i .body ≡ [] → ⊥) × ((l : Literal) → l ∈ i .body → Makes v l)
+    respected i f hs = filled i f (w .rules (f .rule) (f .its) (f .filling) (f .inside)) hs
+
+-- UNSAT of a problem: one that includes it is never answered UNKNOWN, at any budget, and no assignment satisfies it
+pub larger-never-unknown : (p q : Problem) → Includes p q → (b c : ℕ) (s u : State) → search p b ≡ done Unsat s → search q c ≡ done Unknown u → ⊥
+unfolding search
+larger-never-unknown p q w = among-never-unknown (taskOf p) (taskOf q) (includes-among p q w)
+
+pub larger-unsatisfiable : (p q : Problem) → Includes p q → (b : ℕ) (s : State) → search p b ≡ done Unsat s → (v : Assignment) → Satisfies v q → ⊥
+unfolding search
+larger-unsatisfiable p q w b s e v m = among-unsatisfiable (taskOf p) (taskOf q) (includes-among p q w) b s e v (satisfies-respects v q m)

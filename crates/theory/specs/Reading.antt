@@ -1,0 +1,329 @@
+-- What an accepted sheet says, line by line: kinds never fall, so each rule and clause is read against all constants and
+-- symbols of the sheet. Assumes nothing.
+use Prim.Native.Nat.{ℕ, zero, suc, _≤_}
+use mathlib.Core.Path.{_≡_, refl, sym, _∙_, ap}
+use mathlib.Core.Bool.{true, false}
+use mathlib.Core.List.{List, [], _∷_, _++_, map, append-nil, append-assoc, Memᴰ·map, Memᴰ·of-map}
+use native.Mathlib.Omega.{arith}
+use lib.Dec.{eqb, leb, ltb}
+use lib.ListN.{length, drop}
+use borrow.Author.Tests.{eqb-true, eqb-false, leb-true}
+use Rattle.definitions.specs.Lists.{_∈_, isEmpty, keep, joined}
+use Rattle.definitions.specs.Words.{Rule, Clause, Problem, goalAtoms}
+use Rattle.definitions.specs.Sheet.{Line, lines, Number}
+use Rattle.definitions.specs.Questions.{Asked, yes, columns, Walk, count, kindOf, patterns, clauseLiterals, restricted, withConstants, withSymbol, withRule, withClause, constantsLine, symbolLine, ruleLine, clauseLine, lineOfKind, goodLength, Draft, readLine, accepted, readLines, emptyDraft, read}
+use Rattle.definitions.specs.Sheets.{Row, rowOf, isKind, ofKind, firstSize, constantsOf}
+use Rattle.theory.specs.Tests.{by-test, apart}
+use Rattle.theory.specs.ListLaws.{in-along}
+use Rattle.theory.specs.AskedLaws.{yes-injective, by-asked, bind-yes, ask-yes, yes-bind, yes-ask, count-yes, readRule, readClause}
+
+-- ── a line of each kind, from its columns behind the kind ──
+
+counted-first : (q low high : ℕ) (ns : Row) (w : Walk ℕ) → count q low high ns ≡ yes w → firstSize ns ≡ w .found
+unfolding firstSize
+counted-first q low high ns w e = let c = count-yes q low high ns w e in ap firstSize (c .split) ∙ c .size
+
+constants-read : (s : Problem) (ns : Row) (p : Problem) → constantsLine s ns ≡ yes p → p ≡ withConstants s (firstSize ns)
+unfolding constantsLine
+constants-read s ns p e =
+    let (n, h, e₁) = bind-yes (count 8 1 32 ns) _ p e in
+    let (_, e₂) = ask-yes 11 (isEmpty (n .left)) _ p e₁ in
+    cc (counted-first 8 1 32 ns n h)
+
+symbol-read : (s : Problem) (ns : Row) (p : Problem) → symbolLine s ns ≡ yes p → p ≡ withSymbol s (firstSize ns)
+unfolding symbolLine
+symbol-read s ns p e =
+    let (n, h, e₁) = bind-yes (count 8 0 3 ns) _ p e in
+    let (_, e₂) = ask-yes 9 (ltb (length (s .arities)) 16) _ p e₁ in
+    let (_, e₃) = ask-yes 11 (isEmpty (n .left)) _ p e₂ in
+    cc (counted-first 8 0 3 ns n h)
+
+pub rule-read : (s : Problem) (ns : Row) (p : Problem) → ruleLine s ns ≡ yes p
+    → (r : Rule) × (readRule (s .constants) (s .arities) ns ≡ yes r) × (p ≡ withRule s r)
+unfolding ruleLine patterns readRule
+rule-read s ns p e =
+    let (n, h₁, e₁) = bind-yes (count 8 1 3 ns) _ p e in
+    let (m, h₂, e₂) = bind-yes (count 8 0 2 (n .left)) _ p e₁ in
+    let (_, e₃) = ask-yes 9 (ltb (length (s .rules)) 32) _ p e₂ in
+    let (heads, h₄, e₄) = bind-yes (patterns s (n .found) (m .left)) _ p e₃ in
+    let (body, h₅, e₅) = bind-yes (patterns s (m .found) (heads .left)) _ p e₄ in
+    let (h₆, e₆) = ask-yes 11 (isEmpty (body .left)) _ p e₅ in
+    let r : Rule = record { heads = heads .found; body = body .found } in
+    let (h₇, e₇) = ask-yes 12 (restricted r) _ p e₆ in (
+      r,
+      yes-bind (count 8 1 3 ns) _ n r h₁
+          (yes-bind (count 8 0 2 (n .left)) _ m r h₂
+          (yes-bind (patterns s (n .found) (m .left)) _ heads r h₄
+          (yes-bind (patterns s (m .found) (heads .left)) _ body r h₅
+          (yes-ask 11 (isEmpty (body .left)) _ r h₆
+          (yes-ask 12 (restricted r) _ r h₇ refl))))),
+      sym (yes-injective e₇),
+    )
+
+pub clause-read : (s : Problem) (ns : Row) (p : Problem) → clauseLine s ns ≡ yes p
+    → (c : Clause) × (readClause (s .constants) (s .arities) ns ≡ yes c) × (p ≡ withClause s c)
+unfolding clauseLine clauseLiterals readClause
+clause-read s ns p e =
+    let (n, h₁, e₁) = bind-yes (count 8 0 8 ns) _ p e in
+    let (_, e₂) = ask-yes 9 (ltb (length (s .clauses)) 64) _ p e₁ in
+    let (c, h₃, e₃) = bind-yes (clauseLiterals s (n .found) (n .left)) _ p e₂ in
+    let (h₄, e₄) = ask-yes 11 (isEmpty (c .left)) _ p e₃ in
+    let (_, e₅) = ask-yes 13 (leb (length (goalAtoms (withClause s (c .found) .clauses))) 64) _ p e₄ in (
+      c .found,
+      yes-bind (count 8 0 8 ns) _ n (c .found) h₁
+          (yes-bind (clauseLiterals s (n .found) (n .left)) _ c (c .found) h₃
+          (yes-ask 11 (isEmpty (c .left)) _ (c .found) h₄ refl)),
+      sym (yes-injective e₅),
+    )
+
+-- ── a line of any kind ──
+
+-- what a line adds to the problem, by its kind, and which kinds stand before it
+data Adds (before : ℕ) (s : Problem) (ns : Row) : ℕ → Problem → Type 0 where
+  constants : before ≡ 0 → Adds before s ns 1 (withConstants s (firstSize ns))
+  symbol : 1 ≤ before → before ≤ 2 → Adds before s ns 2 (withSymbol s (firstSize ns))
+  rule : (r : Rule) → readRule (s .constants) (s .arities) ns ≡ yes r → 1 ≤ before → Adds before s ns 3 (withRule s r)
+  clause : (c : Clause) → readClause (s .constants) (s .arities) ns ≡ yes c → 1 ≤ before → Adds before s ns 4 (withClause s c)
+
+-- the first line
+first-adds : (s : Problem) (ns : Row) (k : ℕ) (p : Problem) → 1 ≤ k → k ≤ 1 → lineOfKind k s ns ≡ yes p → Adds 0 s ns k p
+unfolding lineOfKind
+first-adds s ns k p l m e =
+    let one : k ≡ 1 = omega arith in
+    rw (one, constants-read s ns p (rw one at e)) (constants refl)
+
+-- a later line
+later-adds : (before : ℕ) (s : Problem) (ns : Row) (k : ℕ) (p : Problem) → 1 ≤ before → before ≤ k → 2 ≤ k → k ≤ 4
+    → lineOfKind k s ns ≡ yes p → Adds before s ns k p
+unfolding lineOfKind
+later-adds before s ns k p b bk l m e =
+    by-test (eqb k 2)
+    (λ t. let k≡2 = eqb-true k 2 t in rw (k≡2, symbol-read s ns p (rw k≡2 at e)) (symbol b (omega arith)))
+    (λ t. by-test (eqb k 3)
+    (λ u.
+    let k≡3 = eqb-true k 3 u in
+    let (r, h, q) = rule-read s ns p (rw k≡3 at e) in
+    rw (k≡3, q) (rule r h b))
+    (λ u.
+    let k≡4 : k ≡ 4 = omega (arith, eqb-false k 2 t, eqb-false k 3 u) in
+    let (c, h, q) = clause-read s ns p (rw k≡4 at e) in
+    rw (k≡4, q) (clause c h b)))
+
+-- the columns of an accepted line, its kind first, and what it adds
+record LineRead (before : ℕ) (s : Problem) (row : Row) (k : ℕ) (p : Problem) : Type 0 where
+  kind : Number
+  rest : Row
+  split : row ≡ kind ∷ rest
+  sign : kind .negative ≡ false
+  size : kind .size ≡ k
+  adds : Adds before s rest k p
+
+kind-read : (before : ℕ) (s : Problem) (ns : Row) (k : Walk ℕ) (p : Problem) → kindOf before ns ≡ yes k
+    → lineOfKind (k .found) s (k .left) ≡ yes p → LineRead before s ns (k .found) p
+unfolding kindOf
+kind-read zero s ns k p e h =
+    let c = count-yes 7 1 1 ns k e in
+    record {
+      kind = c .column;
+      rest = k .left;
+      split = c .split;
+      sign = c .sign;
+      size = c .size;
+      adds = first-adds s (k .left) (k .found) p (c .least) (c .most) h;
+    }
+kind-read (suc b) s ns k p e h =
+    let (j, e₁, e₂) = bind-yes (count 7 2 4 ns) _ k e in
+    let (t, e₃) = ask-yes 7 (leb (suc b) (j .found)) _ k e₂ in
+    let c = count-yes 7 2 4 ns k (e₁ ∙ e₃) in
+    let no-lower : suc b ≤ k .found = rw (ap (λ (w : Walk ℕ). w .found) (yes-injective e₃)) at (leb-true (suc b) (j .found) t) in
+    record {
+      kind = c .column;
+      rest = k .left;
+      split = c .split;
+      sign = c .sign;
+      size = c .size;
+      adds = later-adds (suc b) s (k .left) (k .found) p (omega arith) no-lower (c .least) (c .most) h;
+    }
+
+line-read : (d : Draft) (l : Line) (e : Draft) → readLine d l ≡ yes e → LineRead (d .before) (d .problem) (rowOf l) (e .before) (e .problem)
+unfolding readLine rowOf
+line-read d l e h =
+    let (_, h₁) = ask-yes 4 (l .ended) _ e h in
+    let (_, h₂) = ask-yes 5 (goodLength (length (l .bytes))) _ e h₁ in
+    let (ns, c, h₃) = bind-yes (columns (l .bytes)) _ e h₂ in
+    let (k, kind, h₄) = bind-yes (kindOf (d .before) ns) _ e h₃ in
+    let (p, line, h₅) = bind-yes (lineOfKind (k .found) (d .problem) (k .left)) _ e h₄ in
+    let row : rowOf l ≡ ns = cc in
+    rw (← (yes-injective h₅), row) (kind-read (d .before) (d .problem) ns k p kind line)
+
+-- ── the lines from a given one on ──
+
+-- the lists of rules or clauses before and after some rows: each row adds what it reads as
+record Extends {A : Type 0} (reads : Row → Asked A) (rows : List Row) (old new : List A) : Type 0 where
+  added : List A
+  split : new ≡ old ++ added
+  each : map (λ (r : Row). reads (drop 1 r)) rows ≡ map yes added
+
+extends-one : {A : Type 0} (reads : Row → Asked A) (kind : Number) (ns : Row) (rows : List Row) (old : List A) (a : A) (new : List A)
+    → reads ns ≡ yes a → Extends reads rows (old ++ (a ∷ [])) new → Extends reads ((kind ∷ ns) ∷ rows) old new
+extends-one reads kind ns rows old a new h x =
+    record { added = a ∷ x .added; split = x .split ∙ append-assoc old (a ∷ []) (x .added); each = cc (x .each) }
+
+-- what the lines left to read say, sorted by kind: only the first line is of kind 1, and none of kind 2 follows kind 3 or 4
+record Rest (before : ℕ) (s : Problem) (ones twos threes fours : List Row) (p : Problem) : Type 0 where
+  first : before ≡ 0 → s .constants ≡ 0 → firstSize (joined (drop 1) ones) ≡ p .constants
+  no-first : 1 ≤ before → ones ≡ []
+  constants : 1 ≤ before → p .constants ≡ s .constants
+  no-symbol : 3 ≤ before → twos ≡ []
+  arities : p .arities ≡ s .arities ++ map (λ (r : Row). firstSize (drop 1 r)) twos
+  rules : Extends (readRule (p .constants) (p .arities)) threes (s .rules) (p .rules)
+  clauses : Extends (readClause (p .constants) (p .arities)) fours (s .clauses) (p .clauses)
+
+-- no line is left
+rest-none : (before : ℕ) (s : Problem) → Rest before s [] [] [] [] s
+unfolding joined firstSize
+rest-none before s =
+    record {
+      first = λ b c. sym c;
+      no-first = λ b. refl;
+      constants = λ b. refl;
+      no-symbol = λ b. refl;
+      arities = sym (append-nil (s .arities));
+      rules = record { added = []; split = sym (append-nil (s .rules)); each = refl };
+      clauses = record { added = []; split = sym (append-nil (s .clauses)); each = refl };
+    }
+
+-- the rows of kind j, with a row of kind k in front
+front : ℕ → ℕ → Row → List Row → List Row
+front j k row rows = elim (eqb k j) [ true ↦ row ∷ rows | false ↦ rows ]
+
+-- one line more, in front
+rest-one : (before : ℕ) (s : Problem) (kind : Number) (ns : Row) (k : ℕ) (t : Problem) (ones twos threes fours : List Row) (p : Problem)
+    → Adds before s ns k t → Rest k t ones twos threes fours p
+    → Rest before s (front 1 k (kind ∷ ns) ones) (front 2 k (kind ∷ ns) twos) (front 3 k (kind ∷ ns) threes) (front 4 k (kind ∷ ns) fours) p
+unfolding withConstants withSymbol withRule withClause front joined
+rest-one before s kind ns k t ones twos threes fours p (constants b) r =
+    record {
+      first = λ _ _. cc (r .no-first (omega arith), r .constants (omega arith), append-nil ns);
+      no-first = λ c. absurd (omega arith);
+      constants = λ c. absurd (omega arith);
+      no-symbol = λ c. absurd (omega arith);
+      arities = r .arities;
+      rules = r .rules;
+      clauses = r .clauses;
+    }
+rest-one before s kind ns k t ones twos threes fours p (symbol b c) r =
+    record {
+      first = λ d _. absurd (omega arith);
+      no-first = λ _. r .no-first (omega arith);
+      constants = λ _. r .constants (omega arith);
+      no-symbol = λ d. absurd (omega arith);
+      arities = r .arities ∙ append-assoc (s .arities) (firstSize ns ∷ []) (map (λ (r : Row). firstSize (drop 1 r)) twos);
+      rules = r .rules;
+      clauses = r .clauses;
+    }
+rest-one before s kind ns k t ones twos threes fours p (rule u h b) r =
+    let n : p .constants ≡ s .constants = r .constants (omega arith) in
+    let a : p .arities ≡ s .arities = cc (r .arities, r .no-symbol (omega arith), append-nil (s .arities)) in
+    record {
+      first = λ d _. absurd (omega arith);
+      no-first = λ _. r .no-first (omega arith);
+      constants = λ _. n;
+      no-symbol = λ _. r .no-symbol (omega arith);
+      arities = r .arities;
+      rules = extends-one (readRule (p .constants) (p .arities)) kind ns threes (s .rules) u (p .rules) (cc) (r .rules);
+      clauses = r .clauses;
+    }
+rest-one before s kind ns k t ones twos threes fours p (clause u h b) r =
+    let n : p .constants ≡ s .constants = r .constants (omega arith) in
+    let a : p .arities ≡ s .arities = cc (r .arities, r .no-symbol (omega arith), append-nil (s .arities)) in
+    record {
+      first = λ d _. absurd (omega arith);
+      no-first = λ _. r .no-first (omega arith);
+      constants = λ _. n;
+      no-symbol = λ _. r .no-symbol (omega arith);
+      arities = r .arities;
+      rules = r .rules;
+      clauses = extends-one (readClause (p .constants) (p .arities)) kind ns fours (s .clauses) u (p .clauses) (cc) (r .clauses);
+    }
+
+-- a row of kind k stands in front of the rows of its kind, and of no other
+keep-kind : (j k : ℕ) (kind : Number) (ns : Row) (rows : List Row) → kind .negative ≡ false → kind .size ≡ k
+    → keep (isKind j) ((kind ∷ ns) ∷ rows) ≡ front j k (kind ∷ ns) (keep (isKind j) rows)
+unfolding keep isKind front
+keep-kind j k kind ns rows s z = cc
+
+-- what the rows say, before they are sorted by kind
+abbrev RestOf : ℕ → Problem → List Row → Problem → Type 0
+RestOf before s rows p = Rest before s (keep (isKind 1) rows) (keep (isKind 2) rows) (keep (isKind 3) rows) (keep (isKind 4) rows) p
+
+rest-row : (before : ℕ) (s : Problem) (row : Row) (k : ℕ) (t : Problem) (rows : List Row) (p : Problem)
+    → LineRead before s row k t → RestOf k t rows p → RestOf before s (row ∷ rows) p
+rest-row before s row k t rows p l r =
+    rw (
+      l .split,
+      keep-kind 1 k (l .kind) (l .rest) rows (l .sign) (l .size),
+      keep-kind 2 k (l .kind) (l .rest) rows (l .sign) (l .size),
+      keep-kind 3 k (l .kind) (l .rest) rows (l .sign) (l .size),
+      keep-kind 4 k (l .kind) (l .rest) rows (l .sign) (l .size),
+    )
+    (rest-one before s (l .kind) (l .rest) k t _ _ _ _ p (l .adds) r)
+
+-- from any draft on; the number of the line matters only to a refusal
+lines-read : (d : Draft) (n : ℕ) (ls : List Line) (p : Problem) → readLines d n ls ≡ accepted p → RestOf (d .before) (d .problem) (map rowOf ls) p
+unfolding readLines keep
+lines-read d n [] p e = let same : d .problem ≡ p = cc in rw (← same) (rest-none (d .before) (d .problem))
+lines-read d n (l ∷ ls) p e =
+    by-asked (readLine d l)
+    (λ q h. apart (cc))
+    (λ f h. rest-row (d .before) (d .problem) (rowOf l) (f .before) (f .problem) (map rowOf ls) p (line-read d l f h) (lines-read f (suc n) ls p (cc)))
+
+-- ── the whole sheet ──
+
+-- what the lines of an accepted sheet say, each rule and clause against all constants and all symbols
+pub record Says (sheet : List ℕ) (p : Problem) : Type 0 where
+  pub constants : constantsOf sheet ≡ p .constants
+  pub arities : p .arities ≡ map (λ (r : Row). firstSize (drop 1 r)) (ofKind 2 sheet)
+  pub rules : map (λ (r : Row). readRule (p .constants) (p .arities) (drop 1 r)) (ofKind 3 sheet) ≡ map yes (p .rules)
+  pub clauses : map (λ (r : Row). readClause (p .constants) (p .arities) (drop 1 r)) (ofKind 4 sheet) ≡ map yes (p .clauses)
+
+pub sheet-says : (sheet : List ℕ) (p : Problem) → read sheet ≡ accepted p → Says sheet p
+unfolding read emptyDraft constantsOf ofKind
+sheet-says sheet p e =
+    by-test (leb (length sheet) 16384)
+    (λ short. by-test (isEmpty sheet)
+    (λ empty. apart (cc))
+    (λ full.
+    let r = lines-read emptyDraft 1 (lines sheet) p (cc) in
+    record {
+      constants = r .first refl refl;
+      arities = r .arities;
+      rules = r .rules .each ∙ ap (map yes) (sym (r .rules .split));
+      clauses = r .clauses .each ∙ ap (map yes) (sym (r .clauses .split));
+    }))
+    (λ long. apart (cc))
+
+-- rows that all read as something: each value comes from a row, and each row gives a value
+module _ {A : Type 0} (reads : Row → Asked A) (rows : List Row) (values : List A) (each : map reads rows ≡ map yes values) where
+  value-row : (a : A) → a ∈ values → (r : Row) × (r ∈ rows) × (reads r ≡ yes a)
+  value-row a m = Memᴰ·of-map reads rows (in-along each (Memᴰ·map yes m))
+
+  row-value : (r : Row) → r ∈ rows → (a : A) × (a ∈ values) × (reads r ≡ yes a)
+  row-value r m = let (a, n, e) = Memᴰ·of-map yes values (in-along (sym each) (Memᴰ·map reads m)) in (a, n, sym e)
+
+module _ (sheet : List ℕ) (p : Problem) (reads : read sheet ≡ accepted p) where
+  pub rule-row : (r : Rule) → r ∈ p .rules
+      → (row : Row) × (row ∈ ofKind 3 sheet) × (readRule (p .constants) (p .arities) (drop 1 row) ≡ yes r)
+  rule-row = value-row _ (ofKind 3 sheet) (p .rules) (sheet-says sheet p reads .rules)
+
+  pub row-rule : (row : Row) → row ∈ ofKind 3 sheet
+      → (r : Rule) × (r ∈ p .rules) × (readRule (p .constants) (p .arities) (drop 1 row) ≡ yes r)
+  row-rule = row-value _ (ofKind 3 sheet) (p .rules) (sheet-says sheet p reads .rules)
+
+  pub clause-row : (c : Clause) → c ∈ p .clauses
+      → (row : Row) × (row ∈ ofKind 4 sheet) × (readClause (p .constants) (p .arities) (drop 1 row) ≡ yes c)
+  clause-row = value-row _ (ofKind 4 sheet) (p .clauses) (sheet-says sheet p reads .clauses)
+
+  pub row-clause : (row : Row) → row ∈ ofKind 4 sheet
+      → (c : Clause) × (c ∈ p .clauses) × (readClause (p .constants) (p .arities) (drop 1 row) ≡ yes c)
+  row-clause = row-value _ (ofKind 4 sheet) (p .clauses) (sheet-says sheet p reads .clauses)
