@@ -1,5 +1,5 @@
 -- What the tests and walks over lists find. Assumes nothing.
-use Prim.Native.Nat.{ℕ, zero, suc, _+_, _≤_, _<_}
+use Prim.Native.Nat.{ℕ, zero, suc, _+_, _*_, _≤_}
 use mathlib.Core.Path.{_≡_, refl, sym, _∙_, ap, subst}
 use mathlib.Core.Logic.{_⊎_, inl, inr}
 use mathlib.Core.Bool.{Bool, true, false, not, _&&_, _||_}
@@ -240,3 +240,25 @@ splits (x ∷ p) (y ∷ q) r s e =
       | inl m ↦ inl (List·Memᴰ·tail m)
       | inr c ↦ elim c [ inl h ↦ inr (inl h) | inr m ↦ inr (inr (List·Memᴰ·tail m)) ]
     ]
+
+-- every element has the property
+abbrev pub Each : {A : Type 0} → (A → Type 0) → List A → Type 0
+Each {A = A} P l = (a : A) → a ∈ l → P a
+
+module _ {A : Type 0} (P : A → Type 0) where
+  pub each-nil : Each P []
+  each-nil a m = absurd (List·Memᴰ·not-nil m)
+
+  pub each-cons : {x : A} {l : List A} → P x → Each P l → Each P (x ∷ l)
+  each-cons h g a m = elim (List·Memᴰ·cases-cons m) [ inl e ↦ subst P (sym e) h | inr n ↦ g a n ]
+
+  pub each-append : (l : List A) {k : List A} → Each P l → Each P k → Each P (l ++ k)
+  each-append l g h a m = elim (List·Memᴰ·append-cases l m) [ inl n ↦ g a n | inr n ↦ h a n ]
+
+-- lists of at most so many elements each, joined
+pub joined-length : {A B : Type 0} (f : A → List B) (m : ℕ) (xs : List A) → ((x : A) → x ∈ xs → length (f x) ≤ m)
+    → length (joined f xs) ≤ m * length xs
+unfolding joined
+joined-length f m [] h = omega arith
+joined-length f m (x ∷ xs) h =
+    omega (arith, length-append (f x) (joined f xs), h x (List·Memᴰ·head refl), joined-length f m xs (λ y n. h y (List·Memᴰ·tail n)))

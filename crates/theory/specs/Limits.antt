@@ -1,0 +1,401 @@
+-- What an accepted sheet says keeps the limits: each question that is answered yes leaves its bound behind. Assumes nothing.
+use Prim.Native.Nat.{ℕ, zero, suc, _-_, _≤_}
+use mathlib.Core.Path.{_≡_, refl, ap, subst}
+use mathlib.Core.Bool.{Bool, true, false, not, _&&_}
+use mathlib.Core.List.{List, [], _∷_, _++_, List·Memᴰ·head, List·Memᴰ·tail, List·Memᴰ·not-nil}
+use native.Mathlib.Omega.{arith}
+use lib.Dec.{eqb, leb, ltb}
+use lib.ListN.{length, getD, length-append}
+use borrow.Author.Tests.{eqb-true, eqb-false, leb-true, ltb-true, eq-eqb, ne-eqb}
+use Rattle.definitions.specs.Lists.{_∈_, isEmpty, distinct, joined}
+use Rattle.definitions.specs.Words.{Literal, Clause, Term, variable, constant, Pattern, Rule, Problem, goalAtoms}
+use Rattle.definitions.specs.Sheet.{Line, putByte, lines, Number}
+use Rattle.definitions.specs.Questions.{Asked, no, yes, _>>=_, _>>_, ask, columns, Walk, within, count, kindOf, ruleArgument, clauseArgument, arguments, literal, literals, patternOf, literalOf, patterns, clauseLiterals, restricted, withConstants, withSymbol, withRule, withClause, constantsLine, symbolLine, ruleLine, clauseLine, lineOfKind, Draft, readLine, accepted, readLines, emptyDraft, read}
+use Rattle.theory.specs.Tests.{by-test, apart, and-left, and-right}
+use Rattle.theory.specs.ListLaws.{Each, each-nil, each-cons, each-append}
+
+-- ── the limits ──
+
+-- a variable is one of 6, a constant one of the sheet's
+abbrev pub TermLimits : Problem → Term → Type 0
+TermLimits p (variable v) = (1 ≤ v) × (v ≤ 6)
+TermLimits p (constant c) = (1 ≤ c) × (c ≤ p .constants)
+
+-- a literal's symbol is declared, and its arguments are as many as the arity of the symbol
+pub record PatternLimits (p : Problem) (x : Pattern) : Type 0 where
+  pub symbol : 1 ≤ x .symbol
+  pub declared : x .symbol ≤ length (p .arities)
+  pub terms : length (x .terms) ≡ getD (p .arities) (x .symbol - 1) 0
+  pub inRange : (t : Term) → t ∈ x .terms → TermLimits p t
+
+pub record LiteralLimits (p : Problem) (l : Literal) : Type 0 where
+  pub symbol : 1 ≤ l .atom .symbol
+  pub declared : l .atom .symbol ≤ length (p .arities)
+  pub args : length (l .atom .args) ≡ getD (p .arities) (l .atom .symbol - 1) 0
+  pub inRange : (c : ℕ) → c ∈ l .atom .args → (1 ≤ c) × (c ≤ p .constants)
+
+pub record RuleLimits (p : Problem) (r : Rule) : Type 0 where
+  pub someHead : 1 ≤ length (r .heads)
+  pub heads : length (r .heads) ≤ 3
+  pub body : length (r .body) ≤ 2
+  pub isRestricted : restricted r ≡ true
+  pub eachHead : (x : Pattern) → x ∈ r .heads → PatternLimits p x
+  pub eachBody : (x : Pattern) → x ∈ r .body → PatternLimits p x
+
+pub record ClauseLimits (p : Problem) (c : Clause) : Type 0 where
+  pub literals : length c ≤ 8
+  pub eachLiteral : (l : Literal) → l ∈ c → LiteralLimits p l
+
+pub record Limits (p : Problem) : Type 0 where
+  pub someConstant : 1 ≤ p .constants
+  pub constants : p .constants ≤ 32
+  pub symbols : length (p .arities) ≤ 16
+  pub eachArity : (n : ℕ) → n ∈ p .arities → n ≤ 3
+  pub rules : length (p .rules) ≤ 32
+  pub eachRule : (r : Rule) → r ∈ p .rules → RuleLimits p r
+  pub clauses : length (p .clauses) ≤ 64
+  pub eachClause : (c : Clause) → c ∈ p .clauses → ClauseLimits p c
+  pub goals : length (goalAtoms (p .clauses)) ≤ 64
+
+-- an arity is at most 3; where no symbol is declared, 0 stands for it
+pub arity-limit : (p : Problem) → Limits p → (n : ℕ) → getD (p .arities) n 0 ≤ 3
+arity-limit p h n = go (p .arities) n (h .eachArity)
+  where
+    go : (l : List ℕ) (n : ℕ) → Each (λ k. k ≤ 3) l → getD l n 0 ≤ 3
+    go [] n g = omega arith
+    go (k ∷ l) zero g = g k (List·Memᴰ·head refl)
+    go (k ∷ l) (suc n) g = go l n (λ j m. g j (List·Memᴰ·tail m))
+
+-- ── what holds of whatever the questions let through ──
+
+data Gives {A : Type 0} (P : A → Type 0) : Asked A → Type 0 where
+  refuses : (q : ℕ) → Gives P (no q)
+  allows : (a : A) → P a → Gives P (yes a)
+
+given : {A : Type 0} {P : A → Type 0} {m : Asked A} → Gives P m → (a : A) → m ≡ yes a → P a
+given (refuses q) a e = apart (cc)
+given {P = P} (allows b h) a e = let q : b ≡ a = cc in subst P q h
+
+weaken : {A : Type 0} {P Q : A → Type 0} {m : Asked A} → Gives P m → ((a : A) → P a → Q a) → Gives Q m
+weaken (refuses q) f = refuses q
+weaken (allows a h) f = allows a (f a h)
+
+anything : {A : Type 0} (m : Asked A) → Gives (λ _. Unit {0}) m
+anything (no q) = refuses q
+anything (yes a) = allows a tt
+
+then : {A B : Type 0} {P : A → Type 0} {Q : B → Type 0} {m : Asked A} {f : A → Asked B}
+    → Gives P m → ((a : A) → P a → Gives Q (f a)) → Gives Q (m >>= f)
+unfolding _>>=_
+then (refuses q) g = refuses q
+then (allows a h) g = g a h
+
+asked : {A : Type 0} {P : A → Type 0} (q : ℕ) {b : Bool} {m : Asked A} → (b ≡ true → Gives P m) → Gives P (ask q b >> m)
+unfolding _>>_ ask
+asked q {b = true} g = g refl
+asked q {b = false} g = refuses q
+
+by-asked : {A : Type 0} (m : Asked A) {C : Type 0} → ((q : ℕ) → m ≡ no q → C) → ((a : A) → m ≡ yes a → C) → C
+by-asked (no q) n y = n q refl
+by-asked (yes a) n y = y a refl
+
+-- ── the columns of a line ──
+
+abbrev Between : ℕ → ℕ → ℕ → Type 0
+Between low high n = (low ≤ n) × (n ≤ high)
+
+between : (low high n : ℕ) → (leb low n && leb n high) ≡ true → Between low high n
+between low high n e = (leb-true low n (and-left (leb low n) (leb n high) e), leb-true n high (and-right (leb low n) (leb n high) e))
+
+within-between : (low high : ℕ) (n : Number) → within low high n ≡ true → Between low high (n .size)
+unfolding within
+within-between low high n e =
+    let natural = not (n .negative) in
+    let atLeast = leb low (n .size) in
+    let atMost = leb (n .size) high in
+    let both = and-left (natural && atLeast) atMost e in
+    (leb-true low (n .size) (and-right natural atLeast both), leb-true (n .size) high (and-right (natural && atLeast) atMost e))
+
+count-between : (q low high : ℕ) (ns : List Number) → Gives (λ w. Between low high (w .found)) (count q low high ns)
+unfolding count
+count-between q low high [] = refuses q
+count-between q low high (n ∷ ns) = asked q λ e. allows _ (within-between low high n e)
+
+-- after the first line: the kind is no lower than the one before
+later-kind : (before : ℕ) (ns : List Number) → 1 ≤ before → Gives (λ w. (2 ≤ w .found) × (before ≤ w .found)) (kindOf before ns)
+unfolding kindOf
+later-kind zero ns h = absurd (omega arith)
+later-kind (suc before) ns h =
+    then (count-between 7 2 4 ns) λ k b.
+    asked 7 λ e.
+    allows k (b .0, leb-true (suc before) (k .found) e)
+
+rule-argument : (p : Problem) (n : Number) → Gives (TermLimits p) (ruleArgument (p .constants) n)
+unfolding ruleArgument
+rule-argument p n =
+    by-test (n .negative)
+    (λ e. rw (e, ruleArgument) (asked 10 λ b. allows _ (between 1 (p .constants) (n .size) b)))
+    (λ e. rw (e, ruleArgument) (asked 10 λ b. allows _ (between 1 6 (n .size) b)))
+
+clause-argument : (p : Problem) (n : Number) → Gives (Between 1 (p .constants)) (clauseArgument (p .constants) n)
+unfolding clauseArgument
+clause-argument p n = asked 10 λ e. allows _ (within-between 1 (p .constants) n e)
+
+-- so many, and each has the property
+abbrev Many : {A : Type 0} → (A → Type 0) → ℕ → Walk (List A) → Type 0
+Many P k w = (length (w .found) ≡ k) × Each P (w .found)
+
+module _ {A : Type 0} (argument : Number → Asked A) (InRange : A → Type 0) (in-range : (n : Number) → Gives InRange (argument n)) where
+  arguments-in-range : (k : ℕ) (ns : List Number) → Gives (Many InRange k) (arguments argument k ns)
+  unfolding arguments
+  arguments-in-range zero ns = allows _ (refl, each-nil InRange)
+  arguments-in-range (suc k) [] = refuses 10
+  arguments-in-range (suc k) (n ∷ ns) =
+      then (in-range n) λ a h.
+      then (arguments-in-range k ns) λ w g.
+      allows _ (ap suc (g .0), each-cons InRange h (g .1))
+
+  module _ {L : Type 0} (make : Bool → ℕ → List A → L) (arities : List ℕ) (Keeps : L → Type 0)
+      (keeps : (b : Bool) (s : ℕ) (xs : List A) → Between 1 (length arities) s → length xs ≡ getD arities (s - 1) 0 → Each InRange xs
+      → Keeps (make b s xs)) where
+    literal-keeps : (ns : List Number) → Gives (λ w. Keeps (w .found)) (literal argument make arities ns)
+    unfolding literal
+    literal-keeps [] = refuses 10
+    literal-keeps (n ∷ ns) =
+        asked 10 λ e.
+        then (arguments-in-range (getD arities (n .size - 1) 0) ns) λ w g.
+        allows _ (keeps (not (n .negative)) (n .size) (w .found) (between 1 (length arities) (n .size) e) (g .0) (g .1))
+
+    literals-keep : (k : ℕ) (ns : List Number) → Gives (Many Keeps k) (literals argument make arities k ns)
+    unfolding literals
+    literals-keep zero ns = allows _ (refl, each-nil Keeps)
+    literals-keep (suc k) ns =
+        then (literal-keeps ns) λ l h.
+        then (literals-keep k (l .left)) λ w g.
+        allows _ (ap suc (g .0), each-cons Keeps h (g .1))
+
+patterns-limits : (p : Problem) (k : ℕ) (ns : List Number) → Gives (Many (PatternLimits p) k) (patterns p k ns)
+unfolding patterns patternOf
+patterns-limits p =
+    literals-keep (ruleArgument (p .constants)) (TermLimits p) (rule-argument p) patternOf (p .arities) (PatternLimits p)
+    λ b s ts d e g. record { symbol = d .0; declared = d .1; terms = e; inRange = g }
+
+literals-limits : (p : Problem) (k : ℕ) (ns : List Number) → Gives (Many (LiteralLimits p) k) (clauseLiterals p k ns)
+unfolding clauseLiterals literalOf
+literals-limits p =
+    literals-keep (clauseArgument (p .constants)) (Between 1 (p .constants)) (clause-argument p) literalOf (p .arities) (LiteralLimits p)
+    λ b s cs d e g. record { symbol = d .0; declared = d .1; args = e; inRange = g }
+
+-- ── a line ──
+
+-- the limits of a rule and of a clause speak of constants and symbols alone: other rules and clauses may stand beside
+module _ (p : Problem) (rs : List Rule) (cs : List Clause) where
+  abbrev Beside : Problem
+  Beside = record { constants = p .constants; arities = p .arities; rules = rs; clauses = cs }
+
+  term-beside : (t : Term) → TermLimits p t → TermLimits Beside t
+  term-beside (variable v) h = h
+  term-beside (constant c) h = h
+
+  pattern-beside : {x : Pattern} → PatternLimits p x → PatternLimits Beside x
+  pattern-beside h = record { symbol = h .symbol; declared = h .declared; terms = h .terms; inRange = λ t m. term-beside t (h .inRange t m) }
+
+  rule-beside : {r : Rule} → RuleLimits p r → RuleLimits Beside r
+  rule-beside h =
+      record {
+        someHead = h .someHead;
+        heads = h .heads;
+        body = h .body;
+        isRestricted = h .isRestricted;
+        eachHead = λ x m. pattern-beside (h .eachHead x m);
+        eachBody = λ x m. pattern-beside (h .eachBody x m);
+      }
+
+  literal-beside : {l : Literal} → LiteralLimits p l → LiteralLimits Beside l
+  literal-beside h = record { symbol = h .symbol; declared = h .declared; args = h .args; inRange = h .inRange }
+
+  clause-beside : {c : Clause} → ClauseLimits p c → ClauseLimits Beside c
+  clause-beside h = record { literals = h .literals; eachLiteral = λ l m. literal-beside (h .eachLiteral l m) }
+
+one-more : {A : Type 0} (l : List A) (x : A) (n : ℕ) → ltb (length l) n ≡ true → length (l ++ (x ∷ [])) ≤ n
+one-more l x n e = omega (arith, length-append l (x ∷ []), ltb-true (length l) n e)
+
+each-more : {A : Type 0} (P : A → Type 0) (l : List A) (x : A) → Each P l → P x → Each P (l ++ (x ∷ []))
+each-more P l x g h = each-append P l g (each-cons P h (each-nil P))
+
+none-in : {A : Type 0} {l : List A} → l ≡ [] → (a : A) → a ∈ l → ⊥
+none-in e a m = List·Memᴰ·not-nil (subst (λ k. a ∈ k) e m)
+
+-- no rule and no clause has been read
+abbrev Bare : Problem → Type 0
+Bare p = (p .rules ≡ []) × (p .clauses ≡ [])
+
+constants-line : (p : Problem) → p .arities ≡ [] → Bare p → (ns : List Number) → Gives (λ q. Limits q × Bare q) (constantsLine p ns)
+unfolding constantsLine withConstants goalAtoms distinct joined
+constants-line p a b ns =
+    then (count-between 8 1 32 ns) λ n h.
+    asked 11 λ _.
+    allows _ (
+      record {
+        someConstant = h .0;
+        constants = h .1;
+        symbols = rw a (omega arith);
+        eachArity = λ k m. absurd (none-in a k m);
+        rules = rw (b .0) (omega arith);
+        eachRule = λ r m. absurd (none-in (b .0) r m);
+        clauses = rw (b .1) (omega arith);
+        eachClause = λ c m. absurd (none-in (b .1) c m);
+        goals = rw (b .1) (omega arith);
+      },
+      b,
+    )
+
+symbol-line : (p : Problem) → Limits p → Bare p → (ns : List Number) → Gives (λ q. Limits q × Bare q) (symbolLine p ns)
+unfolding symbolLine withSymbol
+symbol-line p l b ns =
+    then (count-between 8 0 3 ns) λ n h.
+    asked 9 λ room.
+    asked 11 λ _.
+    allows _ (
+      record {
+        someConstant = l .someConstant;
+        constants = l .constants;
+        symbols = one-more (p .arities) (n .found) 16 room;
+        eachArity = each-more (λ k. k ≤ 3) (p .arities) (n .found) (l .eachArity) (h .1);
+        rules = l .rules;
+        eachRule = λ r m. absurd (none-in (b .0) r m);
+        clauses = l .clauses;
+        eachClause = λ c m. absurd (none-in (b .1) c m);
+        goals = l .goals;
+      },
+      b,
+    )
+
+rule-line : (p : Problem) → Limits p → (ns : List Number) → Gives Limits (ruleLine p ns)
+unfolding ruleLine withRule
+rule-line p l ns =
+    then (count-between 8 1 3 ns) λ headCount h.
+    then (count-between 8 0 2 (headCount .left)) λ bodyCount b.
+    asked 9 λ room.
+    then (patterns-limits p (headCount .found) (bodyCount .left)) λ heads hl.
+    then (patterns-limits p (bodyCount .found) (heads .left)) λ body bl.
+    asked 11 λ _.
+    asked 12 λ safe.
+    let r : Rule = record { heads = heads .found; body = body .found } in
+    let limits : RuleLimits p r = record {
+      someHead = omega (arith, hl .0, h .0);
+      heads = omega (arith, hl .0, h .1);
+      body = omega (arith, bl .0, b .1);
+      isRestricted = safe;
+      eachHead = hl .1;
+      eachBody = bl .1;
+    } in
+    let rs = p .rules ++ (r ∷ []) in
+    allows _ (record {
+      someConstant = l .someConstant;
+      constants = l .constants;
+      symbols = l .symbols;
+      eachArity = l .eachArity;
+      rules = one-more (p .rules) r 32 room;
+      eachRule = λ x m. rule-beside p rs (p .clauses) (each-more (RuleLimits p) (p .rules) r (l .eachRule) limits x m);
+      clauses = l .clauses;
+      eachClause = λ c m. clause-beside p rs (p .clauses) (l .eachClause c m);
+      goals = l .goals;
+    })
+
+clause-line : (p : Problem) → Limits p → (ns : List Number) → Gives Limits (clauseLine p ns)
+unfolding clauseLine withClause
+clause-line p l ns =
+    then (count-between 8 0 8 ns) λ literalCount h.
+    asked 9 λ room.
+    then (literals-limits p (literalCount .found) (literalCount .left)) λ c cl.
+    asked 11 λ _.
+    asked 13 λ few.
+    let limits : ClauseLimits p (c .found) = record { literals = omega (arith, cl .0, h .1); eachLiteral = cl .1 } in
+    let cs = p .clauses ++ (c .found ∷ []) in
+    allows _ (record {
+      someConstant = l .someConstant;
+      constants = l .constants;
+      symbols = l .symbols;
+      eachArity = l .eachArity;
+      rules = l .rules;
+      eachRule = λ r m. rule-beside p (p .rules) cs (l .eachRule r m);
+      clauses = one-more (p .clauses) (c .found) 64 room;
+      eachClause = λ x m. clause-beside p (p .rules) cs (each-more (ClauseLimits p) (p .clauses) (c .found) (l .eachClause) limits x m);
+      goals = leb-true (length (goalAtoms cs)) 64 few;
+    })
+
+line-of-kind-1 : (p : Problem) → p .arities ≡ [] → Bare p → (k : ℕ) → k ≡ 1 → (ns : List Number)
+    → Gives (λ q. Limits q × Bare q) (lineOfKind k p ns)
+unfolding lineOfKind
+line-of-kind-1 p a b k e ns = rw (eq-eqb k 1 e, lineOfKind) (constants-line p a b ns)
+
+line-of-later-kind : (p : Problem) → Limits p → (k : ℕ) → 2 ≤ k → (k ≤ 2 → Bare p) → (ns : List Number)
+    → Gives (λ q. Limits q × (k ≤ 2 → Bare q)) (lineOfKind k p ns)
+unfolding lineOfKind
+line-of-later-kind p l k h b ns =
+    let e1 : eqb k 1 ≡ false = ne-eqb k 1 (λ e. omega arith) in
+    by-test (eqb k 2)
+    (λ e2. rw (e1, e2, lineOfKind) (weaken (symbol-line p l (b (omega (arith, eqb-true k 2 e2))) ns) (λ q g. (g .0, λ _. g .1))))
+    (λ e2. let above : k ≤ 2 → ⊥ = λ le. eqb-false k 2 e2 (omega arith) in
+    by-test (eqb k 3)
+    (λ e3. rw (e1, e2, e3, lineOfKind) (weaken (rule-line p l ns) (λ q g. (g, λ le. absurd (above le)))))
+    (λ e3. rw (e1, e2, e3, lineOfKind) (weaken (clause-line p l ns) (λ q g. (g, λ le. absurd (above le))))))
+
+-- ── all lines ──
+
+-- what holds after the first line; kinds never fall, so up to the last symbol no rule and no clause has been read
+record Begun (d : Draft) : Type 0 where
+  limits : Limits (d .problem)
+  begun : 1 ≤ d .before
+  bare : d .before ≤ 2 → Bare (d .problem)
+
+first-line : (l : Line) → Gives Begun (readLine emptyDraft l)
+unfolding readLine emptyDraft kindOf
+first-line l =
+    asked 4 λ _.
+    asked 5 λ _.
+    then (anything (columns (l .bytes))) λ ns _.
+    then (count-between 7 1 1 ns) λ k h.
+    then (line-of-kind-1 _ refl (refl, refl) (k .found) (omega (arith, h .0, h .1)) (k .left)) λ p g.
+    allows _ (record { limits = g .0; begun = h .0; bare = λ _. g .1 })
+
+later-line : (d : Draft) → Begun d → (l : Line) → Gives Begun (readLine d l)
+unfolding readLine
+later-line d i l =
+    asked 4 λ _.
+    asked 5 λ _.
+    then (anything (columns (l .bytes))) λ ns _.
+    then (later-kind (d .before) ns (i .begun)) λ k h.
+    then (line-of-later-kind (d .problem) (i .limits) (k .found) (h .0) (λ le. i .bare (omega (arith, h .1, le))) (k .left)) λ p g.
+    allows _ (record { limits = g .0; begun = omega (arith, h .0); bare = g .1 })
+
+later-lines : (ls : List Line) (d : Draft) (n : ℕ) (p : Problem) → Begun d → readLines d n ls ≡ accepted p → Limits p
+unfolding readLines
+later-lines [] d n p i e = let q : d .problem ≡ p = cc in subst Limits q (i .limits)
+later-lines (l ∷ ls) d n p i e =
+    by-asked (readLine d l) (λ q f. apart (cc)) (λ d′ f. later-lines ls d′ (suc n) p (given (later-line d i l) d′ f) (cc))
+
+all-lines : (ls : List Line) (p : Problem) → isEmpty ls ≡ false → readLines emptyDraft 1 ls ≡ accepted p → Limits p
+unfolding readLines isEmpty
+all-lines [] p s e = apart (cc)
+all-lines (l ∷ ls) p s e =
+    by-asked (readLine emptyDraft l) (λ q f. apart (cc)) (λ d f. later-lines ls d 2 p (given (first-line l) d f) (cc))
+
+put-some : (b : ℕ) (ls : List Line) → isEmpty (putByte b ls) ≡ false
+unfolding isEmpty putByte
+put-some b [] = refl
+put-some b (l ∷ ls) = refl
+
+-- at least one byte, so at least one line
+some-line : (sheet : List ℕ) → isEmpty sheet ≡ false → isEmpty (lines sheet) ≡ false
+unfolding isEmpty lines
+some-line [] s = apart (cc)
+some-line (b ∷ bs) s = by-test (eqb b 10) (λ e. cc) (λ e. cc (put-some b (lines bs)))
+
+pub accepted-limits : (sheet : List ℕ) (p : Problem) → read sheet ≡ accepted p → Limits p
+unfolding read
+accepted-limits sheet p e =
+    by-test (leb (length sheet) 16384)
+    (λ f. by-test (isEmpty sheet) (λ g. apart (cc)) (λ g. all-lines (lines sheet) p (some-line sheet g) (cc)))
+    (λ f. apart (cc))
