@@ -1,0 +1,5 @@
+pub mod Column
+pub mod Scan
+pub mod Sets
+pub mod Places
+pub mod Widths
