@@ -10,3 +10,6 @@ pub mod Call
 pub mod Sheets
 pub mod Text
 pub mod Trials
+pub mod Refusals
+pub mod WrongTurns
+pub mod KeepsTrials
