@@ -1,6 +1,7 @@
 -- What an accepted sheet says keeps the limits: each question that is answered yes leaves its bound behind. Assumes nothing.
 use Prim.Native.Nat.{ℕ, zero, suc, _-_, _≤_}
-use mathlib.Core.Path.{_≡_, refl, ap, subst}
+use mathlib.Core.Path.{_≡_, refl, sym, ap, subst, _∙_}
+use mathlib.Core.Logic.{_⊎_, inl, inr}
 use mathlib.Core.Bool.{Bool, true, false, not, _&&_}
 use mathlib.Core.List.{List, [], _∷_, _++_, List·Memᴰ·head, List·Memᴰ·tail, List·Memᴰ·not-nil}
 use native.Mathlib.Omega.{arith}
@@ -12,6 +13,7 @@ use Rattle.definitions.specs.Words.{Literal, Clause, Term, variable, constant, 
 use Rattle.definitions.specs.Sheet.{Line, putByte, lines, Number}
 use Rattle.definitions.specs.Questions.{Asked, no, yes, _>>=_, _>>_, ask, columns, Walk, within, count, kindOf, ruleArgument, clauseArgument, arguments, literal, literals, patternOf, literalOf, patterns, clauseLiterals, restricted, withConstants, withSymbol, withRule, withClause, constantsLine, symbolLine, ruleLine, clauseLine, lineOfKind, Draft, readLine, accepted, readLines, emptyDraft, read}
 use Rattle.theory.specs.Tests.{by-test, apart, and-left, and-right}
+use Rattle.theory.specs.AskedLaws.{by-asked}
 use Rattle.theory.specs.ListLaws.{Each, each-nil, each-cons, each-append}
 
 -- ── the limits ──
@@ -94,10 +96,6 @@ asked : {A : Type 0} {P : A → Type 0} (q : ℕ) {b : Bool} {m : Asked A} → (
 unfolding _>>_ ask
 asked q {b = true} g = g refl
 asked q {b = false} g = refuses q
-
-by-asked : {A : Type 0} (m : Asked A) {C : Type 0} → ((q : ℕ) → m ≡ no q → C) → ((a : A) → m ≡ yes a → C) → C
-by-asked (no q) n y = n q refl
-by-asked (yes a) n y = y a refl
 
 -- ── the columns of a line ──
 
@@ -227,7 +225,7 @@ none-in : {A : Type 0} {l : List A} → l ≡ [] → (a : A) → a ∈ l → ⊥
 none-in e a m = List·Memᴰ·not-nil (subst (λ k. a ∈ k) e m)
 
 -- no rule and no clause has been read
-abbrev Bare : Problem → Type 0
+abbrev pub Bare : Problem → Type 0
 Bare p = (p .rules ≡ []) × (p .clauses ≡ [])
 
 constants-line : (p : Problem) → p .arities ≡ [] → Bare p → (ns : List Number) → Gives (λ q. Limits q × Bare q) (constantsLine p ns)
@@ -345,10 +343,10 @@ line-of-later-kind p l k h b ns =
 -- ── all lines ──
 
 -- what holds after the first line; kinds never fall, so up to the last symbol no rule and no clause has been read
-record Begun (d : Draft) : Type 0 where
-  limits : Limits (d .problem)
-  begun : 1 ≤ d .before
-  bare : d .before ≤ 2 → Bare (d .problem)
+pub record Begun (d : Draft) : Type 0 where
+  pub limits : Limits (d .problem)
+  pub begun : 1 ≤ d .before
+  pub bare : d .before ≤ 2 → Bare (d .problem)
 
 first-line : (l : Line) → Gives Begun (readLine emptyDraft l)
 unfolding readLine emptyDraft kindOf
@@ -369,6 +367,11 @@ later-line d i l =
     then (later-kind (d .before) ns (i .begun)) λ k h.
     then (line-of-later-kind (d .problem) (i .limits) (k .found) (h .0) (λ le. i .bare (omega (arith, h .1, le))) (k .left)) λ p g.
     allows _ (record { limits = g .0; begun = omega (arith, h .0); bare = g .1 })
+
+-- a line that is read, the first one or a later one
+pub line-begun : (d e : Draft) (l : Line) → (d ≡ emptyDraft) ⊎ Begun d → readLine d l ≡ yes e → Begun e
+line-begun d e l (inl q) h = given (first-line l) e (ap (λ (x : Draft). readLine x l) (sym q) ∙ h)
+line-begun d e l (inr b) h = given (later-line d b l) e h
 
 later-lines : (ls : List Line) (d : Draft) (n : ℕ) (p : Problem) → Begun d → readLines d n ls ≡ accepted p → Limits p
 unfolding readLines
