@@ -3,6 +3,7 @@ pub mod ListLaws
 pub mod WordLaws
 pub mod InstanceLaws
 pub mod SearchLaws
+pub mod TableLaws
 pub mod Steps
 pub mod Ends
 pub mod Counts
@@ -16,6 +17,7 @@ pub mod Reading
 pub mod Inclusion
 pub mod Limits
 pub mod Sources
+pub mod Invariants
 pub mod ListingLaws
 pub mod Sizes
 pub mod Demand3

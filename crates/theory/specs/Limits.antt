@@ -184,6 +184,11 @@ literals-limits p =
     literals-keep (clauseArgument (p .constants)) (Between 1 (p .constants)) (clause-argument p) literalOf (p .arities) (LiteralLimits p)
     λ b s cs d e g. record { symbol = d .0; declared = d .1; args = e; inRange = g }
 
+-- the literals of a clause, as they are read, keep the limits
+pub clause-literals-limits : (p : Problem) (k : ℕ) (ns : List Number) (w : Walk Clause) → clauseLiterals p k ns ≡ yes w
+    → (l : Literal) → l ∈ w .found → LiteralLimits p l
+clause-literals-limits p k ns w e = given (literals-limits p k ns) w e .1
+
 -- ── a line ──
 
 -- the limits of a rule and of a clause speak of constants and symbols alone: other rules and clauses may stand beside

@@ -22,7 +22,7 @@ pub record InBody (k : Task) (a : Atom) : Type 0 where
 abbrev pub Sourced : Task → State → Type 0
 Sourced k s = (a : Atom) → a ∈ s .table → (a ∈ goalAtoms (k .clauses)) ⊎ InBody k a
 
-step-sourced : (k : Task) (budget : ℕ) (s : State) → Sourced k s → (o : Outcome) → Step k budget s o → After (Sourced k) (λ v s. Sourced k s) o
+pub step-sourced : (k : Task) (budget : ℕ) (s : State) → Sourced k s → (o : Outcome) → Step k budget s o → After (Sourced k) (λ v s. Sourced k s) o
 unfolding setUnit logInstance decide afterConflict
 step-sourced k budget s c o (unit l a) = c
 step-sourced k budget s c o (undone t a e) = c
