@@ -1,0 +1,163 @@
+-- Lines of kind 4: what the tests of the words and the slots say of the questions, and that the clause enters by its slots.
+use Prim.Native.Nat.{ℕ, _+_, _*_, _/_, _<_, _≤_}
+use mathlib.Core.Path.{_≡_, refl, sym, _∙_, ap}
+use mathlib.Core.Bool.{true, false}
+use mathlib.Core.List.{List, [], map}
+use native.Mathlib.Omega.{arith}
+use lib.ListN.{length, getD, set, take, drop, length-map}
+use borrow.Author.Tests.{lt-ltb, le-leb, lt-leb}
+use Rattle.definitions.specs.Lists.{isEmpty}
+use Rattle.definitions.specs.Words.{Clause, Pattern}
+use Rattle.definitions.specs.Instances.{ground}
+use Rattle.definitions.specs.Questions.{Asked, no, yes, _>>=_, _>>_, ask, Walk, within, clauseArgument, literals, patternOf, literalOf}
+use Rattle.theory.specs.ListLaws.{Each}
+use Rattle.sheet.specs.Rows.{numberOf, numbers}
+use Rattle.sheet.specs.RowLaws.{within-high}
+use Rattle.sheet.specs.Slots.{argument, slotWords, SlotsRead}
+use Rattle.sheet.specs.SlotLaws.{literals-length, clause-literals, PatternRead, patterns-read}
+use Rattle.sheet.specs.Entering.{ClauseSlots, Entered, entered, enterSlots}
+use Rattle.sheet.specs.LineReads.{clauseAsked, moreClauses, clauseEntered, clauseAnswer, ClauseRead}
+use Rattle.sheet.specs.declared.Sizes.{Sizes}
+use Rattle.sheet.specs.declared.LineRead.{LineRead}
+use Rattle.sheet.specs.declared.LineRead.the-variants.{No, Yes}
+use Rattle.sheet.proofs.CountColumns.{count-missing, count-out, count-in}
+use Rattle.sheet.proofs.SlotWalks.{SlotsWalked, slots-refused, slots-walked, left-over, none-left, words-front}
+use Rattle.sheet.proofs.ClauseSlots.{slots-limits, enter-front, patterns-kept}
+
+-- a line that is refused leaves the arrays free
+pub clause-refused : {m : Asked Clause} {q : ℕ} (s : Sizes) (a b c d e f g h : List ℕ) → m ≡ no q → ClauseRead m (No q) s a b c d e f g h
+clause-refused s a b c d e f g h p = rw p refl
+
+-- ── the count ──
+
+abbrev pub clauseAt : ℕ → List ℕ → ℕ → List ℕ → ℕ → Asked Clause
+clauseAt n row constants arities clauses = clauseAsked constants arities clauses (drop 1 (numbers n row))
+
+module _ (n : ℕ) (row : List ℕ) (constants : ℕ) (arities : List ℕ) (clauses : ℕ) where
+  pub literals-missing : n < 2 → clauseAt n row constants arities clauses ≡ no 8
+  unfolding clauseAsked _>>=_
+  literals-missing h = rw (count-missing n row 1 8 0 8 (omega arith))
+
+  module _ (fits : n ≤ length row) (two : 2 ≤ n) where
+    pub literals-out : within 0 8 (numberOf (getD row 1 0)) ≡ false → clauseAt n row constants arities clauses ≡ no 8
+    unfolding clauseAsked _>>=_
+    literals-out h = rw (count-out n row 1 8 0 8 fits (omega arith) h)
+
+    module _ (read : within 0 8 (numberOf (getD row 1 0)) ≡ true) where
+      pub clauses-full : clauses ≡ 64 → clauseAt n row constants arities clauses ≡ no 9
+      unfolding clauseAsked ask _>>=_ _>>_
+      clauses-full h = rw (count-in n row 1 8 0 8 fits (omega arith) read, h)
+
+      clause-counted : clauses < 64
+          → clauseAt n row constants arities clauses
+          ≡ (literals (clauseArgument constants) literalOf arities (getD row 1 0 / 2) (drop 2 (numbers n row)) >>= λ c. ask 11 (isEmpty (c .left)) >> yes (c .found))
+      unfolding clauseAsked ask _>>=_ _>>_
+      clause-counted h = rw (count-in n row 1 8 0 8 fits (omega arith) read, lt-ltb clauses 64 h)
+
+-- the count is read, and there is room for a clause
+pub record ClauseCount (n : ℕ) (row : List ℕ) (s : Sizes) (first : ℕ) : Type 0 where
+  pub fits : n ≤ length row
+  pub two : 2 ≤ n
+  pub read : within 0 8 (numberOf (getD row 1 0)) ≡ true
+  pub room : s .clauses < 64
+  pub word : first ≡ getD row 1 0
+
+pub clause-few : {n : ℕ} {row : List ℕ} {s : Sizes} {first : ℕ} → ClauseCount n row s first → first / 2 ≤ 8
+unfolding numberOf
+clause-few k = rw (k .word) (omega (arith, within-high 0 8 _ (k .read)))
+
+-- ── the literals ──
+
+-- question 11 and the clause, of the literals as slots have them
+unfoldable clauseBehind : Asked (Walk (List Pattern)) → Asked Clause
+clauseBehind (no q) = no q
+clauseBehind (yes w) = ask 11 (isEmpty (w .left)) >> yes (map (ground []) (w .found))
+
+grounded : (m : Asked (Walk (List Pattern)))
+    → (_>>=_ {B = Walk Clause} m (λ w. yes (record { found = map (ground []) (w .found); left = w .left })) >>= λ c. ask 11 (isEmpty (c .left)) >> yes (c .found)) ≡ clauseBehind m
+unfolding clauseBehind _>>=_
+grounded (no q) = refl
+grounded (yes w) = refl
+
+module _ (n : ℕ) (row : List ℕ) (s : Sizes) (arities : List ℕ) (first next : ℕ) (before after : List ℕ) (k : ClauseCount n row s first)
+    (r : SlotsRead (literals (argument false (s .constants)) patternOf arities (first / 2) (drop 2 (numbers n row))) n next before after) where
+  behind-count : clauseAt n row (s .constants) arities (s .clauses) ≡ clauseBehind (literals (argument false (s .constants)) patternOf arities (first / 2) (drop 2 (numbers n row)))
+  behind-count =
+      clause-counted n row (s .constants) arities (s .clauses) (k .fits) (k .two) (k .read) (k .room)
+      ∙ rw (← k .word, clause-literals (s .constants) arities (first / 2) (drop 2 (numbers n row)))
+      (grounded (literals (argument false (s .constants)) patternOf arities (first / 2) (drop 2 (numbers n row))))
+
+  pub clause-unread : next ≡ 0 → clauseAt n row (s .constants) arities (s .clauses) ≡ no 10
+  unfolding clauseBehind
+  clause-unread h =
+      rw (behind-count, slots-refused false _ _ n row 2 _ next before after (k .fits) (omega arith) (k .two) r h)
+
+  module _ (read : next ≡ 0 → ⊥) where
+    walked : SlotsWalked (literals (argument false (s .constants)) patternOf arities (first / 2) (drop 2 (numbers n row))) n next before after
+    walked = slots-walked false _ _ n row 2 _ next before after (k .fits) (omega arith) (k .two) r read
+
+    pub clause-over : next < n → clauseAt n row (s .constants) arities (s .clauses) ≡ no 11
+    unfolding ask _>>_ clauseBehind
+    clause-over h = rw (behind-count, walked .read, left-over (walked .walk .left) (walked .columns) h)
+
+    clause : Clause
+    clause = map (ground []) (walked .walk .found)
+
+    clause-found : n ≤ next → clauseAt n row (s .constants) arities (s .clauses) ≡ yes clause
+    unfolding ask _>>_ clauseBehind clause
+    clause-found h = rw (behind-count, walked .read, none-left (walked .walk .left) (walked .columns) h)
+
+    found-count : length (walked .walk .found) ≡ first / 2
+    found-count = literals-length (argument false (s .constants)) patternOf arities (first / 2) (drop 2 (numbers n row)) (walked .walk) (walked .read)
+
+    clause-count : length clause ≡ first / 2
+    unfolding clause
+    clause-count = length-map (walked .walk .found) (ground []) ∙ found-count
+
+    found-read : Each (PatternRead false (s .constants) arities) (walked .walk .found)
+    found-read = patterns-read false (s .constants) arities (first / 2) (drop 2 (numbers n row)) (walked .walk) (walked .read)
+
+    module _ (slots : 32 ≤ length before) where
+      words : take (4 * (first / 2)) after ≡ slotWords (walked .walk .found)
+      words = words-front before (walked .walk .found) (walked .words) (first / 2) found-count (omega (arith, clause-few k))
+
+      pub clause-slots : s .constants ≤ 32 → length arities ≤ 16 → ClauseSlots after (first / 2)
+      clause-slots few declared = slots-limits (s .constants) few arities declared (walked .walk .found) found-read after (first / 2) found-count words
+
+      module _ (whole : n ≤ next) (atoms : ℕ) (literals₀ table₀ index₀ literals₁ table₁ index₁ : List ℕ)
+          (state : entered atoms (s .literals + first / 2) literals₁ table₁ index₁ ≡ enterSlots after 0 (first / 2) (entered (s .atoms) (s .literals) literals₀ table₀ index₀)) where
+        abbrev result : Entered
+        result = entered atoms (s .literals + first / 2) literals₁ table₁ index₁
+
+        clause-enters : clauseEntered clause s literals₀ table₀ index₀ ≡ result
+        unfolding clauseEntered clause
+        clause-enters =
+            rw (clause-count, patterns-kept (s .constants) arities (walked .walk .found) found-read)
+            (sym (state ∙ enter-front after (slotWords (walked .walk .found)) (first / 2) _ words))
+
+        module _ (starts : List ℕ) where
+          clause-held : (a : LineRead) → a ≡ clauseAnswer result s
+              → ClauseRead (clauseAt n row (s .constants) arities (s .clauses)) a s
+              starts (set starts (s .clauses + 1) (s .literals + first / 2)) literals₀ literals₁ table₀ table₁ index₀ index₁
+          clause-held a e =
+              let same = sym clause-enters in
+              rw (clause-found whole)
+              (record {
+                answer = e ∙ ap (λ (x : Entered). clauseAnswer x s) same;
+                starts = rw clause-count;
+                literals = ap (λ (x : Entered). x .literals) same;
+                table = ap (λ (x : Entered). x .table) same;
+                index = ap (λ (x : Entered). x .index) same;
+              })
+
+          pub clause-many : 64 < atoms
+              → ClauseRead (clauseAt n row (s .constants) arities (s .clauses)) (No 13) s
+              starts (set starts (s .clauses + 1) (s .literals + first / 2)) literals₀ literals₁ table₀ table₁ index₀ index₁
+          unfolding clauseAnswer
+          clause-many h = clause-held (No 13) (cc (lt-leb atoms 64 h))
+
+          pub clause-read : atoms ≤ 64
+              → ClauseRead (clauseAt n row (s .constants) arities (s .clauses)) (Yes (moreClauses result s)) s
+              starts (set starts (s .clauses + 1) (s .literals + first / 2)) literals₀ literals₁ table₀ table₁ index₀ index₁
+          unfolding clauseAnswer
+          clause-read h = clause-held (Yes (moreClauses result s)) (cc (le-leb atoms 64 h))

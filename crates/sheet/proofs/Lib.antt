@@ -1,0 +1,17 @@
+pub mod Arguments
+pub mod ClauseLines
+pub mod ClauseSlots
+pub mod CountColumns
+pub mod CountLines
+pub mod Entries
+pub mod Fours
+pub mod LineKinds
+pub mod Literals
+pub mod RowLoops
+pub mod RowQuestions
+pub mod RowTests
+pub mod RuleLines
+pub mod RulePlaces
+pub mod Sheets
+pub mod SlotWalks
+pub mod Terms

@@ -1,0 +1,56 @@
+-- What tests say of a word's number: whether it is in a range, and which kind of line it makes.
+use Prim.Native.Nat.{ℕ, zero, suc, _/_, _%_, _<_, _≤_}
+use mathlib.Core.Path.{_≡_, refl}
+use mathlib.Core.Bool.{true, false, _&&_}
+use lib.Dec.{leb}
+use borrow.Author.Tests.{eq-eqb, ne-eqb, le-leb, lt-leb}
+use Rattle.definitions.specs.Sheet.{Number}
+use Rattle.definitions.specs.Questions.{within}
+use Rattle.theory.specs.Tests.{by-test}
+use Rattle.sheet.specs.Rows.{numberOf, kindHere}
+
+module _ (low high w : ℕ) where
+  pub negative-out : w % 2 ≡ 1 → false ≡ within low high (numberOf w)
+  unfolding within numberOf
+  negative-out h = cc (eq-eqb (w % 2) 1 h)
+
+  pub below-out : (w % 2 ≡ 1 → ⊥) → w / 2 < low → false ≡ within low high (numberOf w)
+  unfolding within numberOf
+  below-out n h = cc (ne-eqb (w % 2) 1 n, lt-leb low (w / 2) h)
+
+  pub from-low : (w % 2 ≡ 1 → ⊥) → low ≤ w / 2 → leb (w / 2) high ≡ within low high (numberOf w)
+  unfolding within numberOf
+  from-low n h = cc (ne-eqb (w % 2) 1 n, le-leb low (w / 2) h)
+
+-- on the first line
+module _ {before : ℕ} (n : Number) (h : before ≡ 0) where
+  pub first-kind : within 1 1 n ≡ true → 1 ≡ kindHere before n
+  unfolding kindHere
+  first-kind t = cc
+
+  pub no-first-kind : within 1 1 n ≡ false → 0 ≡ kindHere before n
+  unfolding kindHere
+  no-first-kind t = cc
+
+-- on a later line
+kind-later :
+    (before : ℕ) (n : Number) → (before ≡ 0 → ⊥)
+    → kindHere before n ≡ elim (within 2 4 n && leb before (n .size)) [ true ↦ n .size | false ↦ 0 ]
+unfolding kindHere
+kind-later zero n h = absurd (h refl)
+kind-later (suc before) n h = refl
+
+module _ (before : ℕ) {x w : ℕ} (e : x ≡ w) (h : before ≡ 0 → ⊥) where
+  pub kind-falls : x / 2 < before → 0 ≡ kindHere before (numberOf w)
+  unfolding numberOf
+  kind-falls l =
+      let f = lt-leb before (x / 2) l in
+      let k = kind-later before (numberOf w) h in
+      by-test (within 2 4 (numberOf w)) (λ t. cc) (λ t. cc)
+
+  pub later-kind : before ≤ x / 2 → within 2 4 (numberOf w) ≡ true → x / 2 ≡ kindHere before (numberOf w)
+  unfolding numberOf
+  later-kind l t = cc (kind-later before (numberOf w) h, le-leb before (x / 2) l)
+
+  pub no-later-kind : within 2 4 (numberOf w) ≡ false → 0 ≡ kindHere before (numberOf w)
+  no-later-kind t = cc (kind-later before (numberOf w) h)

@@ -1,0 +1,131 @@
+-- `sheet::read_sheet` meets its contract: the sheet from the next line on, read behind the lines so far, comes to what all of it comes to. Assumes nothing.
+use Prim.Native.Nat.{_-_}
+use native.Mathlib.Omega.{arith}
+use lib.ListN.{length}
+use Rattle.sheet.specs.Encoding.{Arrays, arrays}
+use Rattle.sheet.proofs.Sheets.{read-long, read-empty, line-inside, Reached, reached-start, reached-end, Asks, asks-count, reached-ready, columns-stop, kind-stop, line-stop, reached-next}
+use borrow.Author.Needs.{needs}
+use Rattle.sheet.proofs.read_sheet.Statement.{statement}
+use Rattle.sheet.proofs.read_sheet.Tie as tie
+
+abbrev Inv-loop : tie.InvT-loop
+Inv-loop sheet arities₀ rules₀ starts₀ literals₀ table₀ index₀ row₀ slots₀ s₀ before₀ from₀ line₀ arities rules starts literals table index row slots s before from line =
+    Reached sheet (arrays arities₀ rules₀ starts₀ literals₀ table₀ index₀) (arrays arities rules starts literals table index) s before from line
+
+abbrev μ-loop : tie.MeasureT-loop
+μ-loop sheet arities₀ rules₀ starts₀ literals₀ table₀ index₀ row₀ slots₀ s₀ before₀ from₀ line₀ arities rules starts literals table index row slots s before from line =
+    length sheet - from
+
+-- the line of a turn, once its columns are read
+asks :
+    (c : tie.After-read-line Inv-loop μ-loop)
+    → Asks (c .before .before .before .before .before .before .before .before .before .before .args .sheet .now) (c .before .before .before .before .loop .from) (c .before .before .line-end .result) (c .read-line .result) (c .read-line .last .1 .1 .1 .0)
+asks c = record { more = c .before .before .before .loop-test .taken; ends = c .before .before .line-end .ensures; asked = c .read-line .ensures }
+
+-- the arrays as the reader of the line leaves them
+abbrev after : tie.After-line-of-kind Inv-loop μ-loop → Arrays
+after c =
+    let a = c .line-of-kind .last .1 .1 .1 .1 .1 in
+    arrays (a .0) (a .1 .0) (a .1 .1 .0) (a .1 .1 .1 .0) (a .1 .1 .1 .1 .0) (a .1 .1 .1 .1 .1 .0)
+
+returns : tie.Need-returns Inv-loop μ-loop
+returns c = rw (read-long _ (c .if1 .taken))
+
+returns-2 : tie.Need-returns-2 Inv-loop μ-loop
+returns-2 c = rw (read-empty _ (c .before .if1 .left) (c .if2 .taken))
+
+element-write-starts : tie.Need-element-write-starts Inv-loop μ-loop
+element-write-starts c = search needs
+
+loop-holds : tie.Need-loop-holds Inv-loop μ-loop
+loop-holds c =
+    let start = c .before .before .before .before .before in
+    reached-start (start .args .starts .now) (c .before .before .before .if1 .left) (c .before .before .if2 .left) (start .pre) (c .-whole2 .given .0)
+
+line-end-requires : tie.Need-line-end-requires Inv-loop μ-loop
+line-end-requires c κs = search needs
+
+read-line-requires : tie.Need-read-line-requires Inv-loop μ-loop
+read-line-requires c κs = line-inside _ _ _ (c .before .before .loop-test .taken) (c .before .line-end .ensures)
+
+returns-3 : tie.Need-returns-3 Inv-loop μ-loop
+returns-3 c = rw (columns-stop (c .before .before .before .before .before .loop .inv) (asks (c .before)) (c .if3 .taken))
+
+array-read-kind-here : tie.Need-array-read-kind-here Inv-loop μ-loop
+array-read-kind-here c = search needs
+
+kind-here-requires : tie.Need-kind-here-requires Inv-loop μ-loop
+kind-here-requires c κs = search needs
+
+returns-4 : tie.Need-returns-4 Inv-loop μ-loop
+returns-4 c =
+    let line = c .before .before .before in
+    rw (kind-stop (line .before .before .before .before .loop .inv) (asks line) (c .before .before .if3 .left) (c .before .kind-here .ensures) (c .if4 .taken))
+
+sub-n : tie.Need-sub-n Inv-loop μ-loop
+sub-n c = search needs
+
+line-of-kind-requires : tie.Need-line-of-kind-requires Inv-loop μ-loop
+line-of-kind-requires c κs =
+    let line = c .before .before .before .before .before .before .before .before .before .before .before in
+    let count = asks-count (asks line) (c .before .before .before .before .before .before .before .before .before .before .if3 .left) in
+    (count .0, count .1, reached-ready (line .before .before .before .before .loop .inv))
+
+enum-known-q : tie.Need-enum-known-q Inv-loop μ-loop
+enum-known-q c = search needs
+
+returns-5 : tie.Need-returns-5 Inv-loop μ-loop
+returns-5 c =
+    let told = c .before .before .before in
+    let kind = told .before .before .before .before .before .before .before .before .before .before in
+    let line = kind .before .before in
+    rw (line-stop (line .before .before .before .before .loop .inv) (asks line) (kind .before .if3 .left) (kind .kind-here .ensures) (told .before .before .before .before .before .before .before .before .before .if4 .left) _ (after told) (told .line-of-kind .ensures) (c .before .q .given .1))
+
+enum-known-t : tie.Need-enum-known-t Inv-loop μ-loop
+enum-known-t c = search needs
+
+add-from : tie.Need-add-from Inv-loop μ-loop
+add-from c = let line = asks (c .before .before .before .before .before .before .before .before .before .before .before .before .before .before .before) in omega (arith, line-inside _ _ _ (line .more) (line .ends))
+
+add-line : tie.Need-add-line Inv-loop μ-loop
+add-line c = let inv = c .before .before .before .before .before .before .before .before .before .before .before .before .before .before .before .before .before .before .before .loop .inv in omega (arith, inv .short, inv .counted, asks (c .before .before .before .before .before .before .before .before .before .before .before .before .before .before .before) .more)
+
+loop-less : tie.Need-loop-less Inv-loop μ-loop
+loop-less c = let line = asks (c .before .before .before .before .before .before .before .before .before .before .before .before .before .before .before) in omega (arith, line .more, line-inside _ _ _ (line .more) (line .ends))
+
+loop-again : tie.Need-loop-again Inv-loop μ-loop
+loop-again c =
+    let told = c .before .before .before in
+    let kind = told .before .before .before .before .before .before .before .before .before .before in
+    let line = kind .before .before in
+    reached-next (line .before .before .before .before .loop .inv) (asks line) (kind .before .if3 .left) (kind .kind-here .ensures) (told .before .before .before .before .before .before .before .before .before .if4 .left) _ (after told) (told .line-of-kind .ensures) (c .before .t .given .1)
+
+returns-6 : tie.Need-returns-6 Inv-loop μ-loop
+returns-6 c = reached-end _ (c .before .loop .inv) (c .loop-test .left)
+
+pub read-sheet-spec : {M : Type 1} → statement M
+read-sheet-spec =
+    tie.close
+    (tie.spec
+    Inv-loop
+    μ-loop
+    returns
+    returns-2
+    element-write-starts
+    loop-holds
+    line-end-requires
+    read-line-requires
+    returns-3
+    array-read-kind-here
+    kind-here-requires
+    returns-4
+    sub-n
+    line-of-kind-requires
+    enum-known-q
+    returns-5
+    enum-known-t
+    add-from
+    add-line
+    loop-less
+    loop-again
+    returns-6)

@@ -1,0 +1,78 @@
+-- What the arrays hold of a problem: codes of atoms, the table and its index, clauses as literals of table positions. Assumes nothing.
+use Prim.Native.Nat.{ℕ, suc, _+_, _-_, _*_}
+use mathlib.Core.Bool.{true, false, not}
+use mathlib.Core.List.{List, [], _∷_, map}
+use lib.ListN.{length, getD, set, replicate}
+use lib.Seq.{sets}
+use Rattle.definitions.specs.Lists.{joined}
+use Rattle.definitions.specs.Words.{Atom, Literal, sameAtom, Clause, Problem, goalAtoms}
+use Rattle.sheet.specs.Rows.{wordOf}
+use Rattle.sheet.specs.Slots.{ruleWords}
+use Rattle.sheet.specs.declared.Sizes.{Sizes}
+
+-- a constant from 0; 0 too where there is no argument
+unfoldable pub place : List ℕ → ℕ → ℕ
+place args i = getD args i 1 - 1
+
+-- symbol and three constants as one number below 524,288
+unfoldable pub atomCode : Atom → ℕ
+atomCode a = (((a .symbol - 1) * 32 + place (a .args) 0) * 32 + place (a .args) 1) * 32 + place (a .args) 2
+
+-- where an atom stands in the table
+unfoldable pub position : List Atom → Atom → ℕ
+position [] a = 0
+position (b ∷ bs) a = elim (sameAtom b a) [ true ↦ 0 | false ↦ suc (position bs a) ]
+
+-- a literal: twice its atom's position, and 1 more where it is negated
+unfoldable pub literalWord : List Atom → Literal → ℕ
+literalWord table l = wordOf (not (l .positive)) (position table (l .atom))
+
+unfoldable pub clauseWords : List Atom → Clause → List ℕ
+clauseWords table c = map (literalWord table) c
+
+-- where each clause starts among all literals, and where the last one ends
+unfoldable pub startsFrom : ℕ → List Clause → List ℕ
+startsFrom at [] = at ∷ []
+startsFrom at (c ∷ cs) = at ∷ startsFrom (at + length c) cs
+
+-- the index: at each code one more than the position of the atom with that code, 0 for an atom outside the table
+unfoldable pub indexFrom : ℕ → List Atom → List ℕ → List ℕ
+indexFrom at [] index = index
+indexFrom at (a ∷ as′) index = indexFrom (suc at) as′ (set index (atomCode a) (suc at))
+
+unfoldable pub emptyIndex : List ℕ
+emptyIndex = replicate 524288 0
+
+unfoldable pub sizesOf : Problem → Sizes
+sizesOf p =
+    record {
+      constants = p .constants;
+      symbols = length (p .arities);
+      rules = length (p .rules);
+      clauses = length (p .clauses);
+      atoms = length (goalAtoms (p .clauses));
+      literals = length (joined (λ (c : Clause). c) (p .clauses));
+    }
+
+-- six arrays that hold a problem; what stands behind it is what stood there before
+pub record Arrays : Type 0 where
+  pub arities : List ℕ
+  pub rules : List ℕ
+  pub starts : List ℕ
+  pub literals : List ℕ
+  pub table : List ℕ
+  pub index : List ℕ
+
+abbrev pub arrays : List ℕ → List ℕ → List ℕ → List ℕ → List ℕ → List ℕ → Arrays
+arrays a r s l t i = record { arities = a; rules = r; starts = s; literals = l; table = t; index = i }
+
+unfoldable pub hold : Problem → Arrays → Arrays
+hold p before =
+    record {
+      arities = sets (before .arities) 0 (p .arities);
+      rules = sets (before .rules) 0 (joined ruleWords (p .rules));
+      starts = sets (before .starts) 0 (startsFrom 0 (p .clauses));
+      literals = sets (before .literals) 0 (joined (clauseWords (goalAtoms (p .clauses))) (p .clauses));
+      table = sets (before .table) 0 (map atomCode (goalAtoms (p .clauses)));
+      index = indexFrom 0 (goalAtoms (p .clauses)) (before .index);
+    }

@@ -1,0 +1,13 @@
+pub mod Rows
+pub mod RowLaws
+pub mod Slots
+pub mod SlotLaws
+pub mod Entering
+pub mod EnteringLaws
+pub mod Encoding
+pub mod CodeLaws
+pub mod PositionLaws
+pub mod ClauseSlotLaws
+pub mod EncodingLaws
+pub mod LineReads
+pub mod SheetLaws

@@ -1,0 +1,170 @@
+-- What the readers of a line of each kind say, by what the questions come to. Assumes nothing.
+use Prim.Native.Nat.{ℕ, zero, suc, _+_, _*_, _≤_}
+use mathlib.Core.Path.{_≡_}
+use mathlib.Core.Bool.{Bool, true, false}
+use mathlib.Core.List.{List, [], _∷_, _++_, map}
+use lib.Dec.{eqb, leb, ltb}
+use lib.ListN.{length, getD, set, take, drop}
+use lib.Seq.{sets}
+use Rattle.definitions.specs.Lists.{isEmpty}
+use Rattle.definitions.specs.Words.{Clause, Rule, Problem}
+use Rattle.definitions.specs.Sheet.{Line, Number}
+use Rattle.definitions.specs.Questions.{Asked, no, yes, _>>=_, _>>_, ask, count, ruleArgument, clauseArgument, literals, patternOf, literalOf, restricted, columns, goodLength, Reading, refused, accepted}
+use Rattle.sheet.specs.Slots.{asPattern, slotWords, ruleWords}
+use Rattle.sheet.specs.Entering.{Entered, entered, enterSlots}
+use Rattle.sheet.specs.Encoding.{Arrays, arrays, hold, sizesOf}
+use Rattle.sheet.specs.declared.Sizes.{Sizes}
+use Rattle.sheet.specs.declared.Read.{Read}
+use Rattle.sheet.specs.declared.Read.the-variants.{Refused, Accepted}
+use Rattle.sheet.specs.declared.LineRead.{LineRead}
+use Rattle.sheet.specs.declared.LineRead.the-variants.{No, Yes}
+
+-- 8 and 11 of a line of kind 1; 8, 9 and 11 of one of kind 2, where so many symbols stand already
+unfoldable pub constantsAsked : List Number → Asked ℕ
+constantsAsked ns = do
+  n ← count 8 1 32 ns
+  ask 11 (isEmpty (n .left))
+  yes (n .found)
+
+unfoldable pub arityAsked : ℕ → List Number → Asked ℕ
+arityAsked symbols ns = do
+  arity ← count 8 0 3 ns
+  ask 9 (ltb symbols 16)
+  ask 11 (isEmpty (arity .left))
+  yes (arity .found)
+
+-- 8 to 12 of a line of kind 3, where so many rules stand already
+unfoldable pub ruleAsked : ℕ → List ℕ → ℕ → List Number → Asked Rule
+ruleAsked constants arities rules ns = do
+  headCount ← count 8 1 3 ns
+  bodyCount ← count 8 0 2 (headCount .left)
+  ask 9 (ltb rules 32)
+  heads ← literals (ruleArgument constants) patternOf arities (headCount .found) (bodyCount .left)
+  body ← literals (ruleArgument constants) patternOf arities (bodyCount .found) (heads .left)
+  ask 11 (isEmpty (body .left))
+  let r : Rule = record { heads = heads .found; body = body .found }
+  ask 12 (restricted r)
+  yes r
+
+-- 8 to 11 of a line of kind 4, where so many clauses stand already
+unfoldable pub clauseAsked : ℕ → List ℕ → ℕ → List Number → Asked Clause
+clauseAsked constants arities clauses ns = do
+  literalCount ← count 8 0 8 ns
+  ask 9 (ltb clauses 64)
+  c ← literals (clauseArgument constants) literalOf arities (literalCount .found) (literalCount .left)
+  ask 11 (isEmpty (c .left))
+  yes (c .found)
+
+-- ── one line more ──
+
+unfoldable pub moreConstants : ℕ → Sizes → Sizes
+moreConstants n s = record { constants = n; symbols = s .symbols; rules = s .rules; clauses = s .clauses; atoms = s .atoms; literals = s .literals }
+
+unfoldable pub moreSymbols : Sizes → Sizes
+moreSymbols s = record { constants = s .constants; symbols = s .symbols + 1; rules = s .rules; clauses = s .clauses; atoms = s .atoms; literals = s .literals }
+
+unfoldable pub moreRules : Sizes → Sizes
+moreRules s = record { constants = s .constants; symbols = s .symbols; rules = s .rules + 1; clauses = s .clauses; atoms = s .atoms; literals = s .literals }
+
+unfoldable pub moreClauses : Entered → Sizes → Sizes
+moreClauses e s = record { constants = s .constants; symbols = s .symbols; rules = s .rules; clauses = s .clauses + 1; atoms = e .atoms; literals = e .count }
+
+abbrev pub ConstantsRead : Asked ℕ → LineRead → Sizes → Type 0
+ConstantsRead (no q) r s = r ≡ No q
+ConstantsRead (yes n) r s = r ≡ Yes (moreConstants n s)
+
+abbrev pub SymbolRead : Asked ℕ → LineRead → Sizes → List ℕ → List ℕ → Type 0
+SymbolRead (no q) r s before after = r ≡ No q
+SymbolRead (yes n) r s before after = (r ≡ Yes (moreSymbols s)) × (after ≡ set before (s .symbols) n)
+
+abbrev pub RuleRead : Asked Rule → LineRead → Sizes → List ℕ → List ℕ → Type 0
+RuleRead (no q) r s before after = r ≡ No q
+RuleRead (yes x) r s before after = (r ≡ Yes (moreRules s)) × (after ≡ sets before (22 * s .rules) (ruleWords x))
+
+-- the clause enters, and question 13 is asked of the atoms that there are then
+unfoldable pub clauseEntered : Clause → Sizes → List ℕ → List ℕ → List ℕ → Entered
+clauseEntered c s literals table index = enterSlots (slotWords (map asPattern c)) 0 (length c) (entered (s .atoms) (s .literals) literals table index)
+
+unfoldable pub clauseAnswer : Entered → Sizes → LineRead
+clauseAnswer e s = elim (leb (e .atoms) 64) [ true ↦ Yes (moreClauses e s) | false ↦ No 13 ]
+
+pub record ClauseHeld (c : Clause) (r : LineRead) (s : Sizes) (starts₀ starts₁ literals₀ literals₁ table₀ table₁ index₀ index₁ : List ℕ) : Type 0 where
+  pub answer : r ≡ clauseAnswer (clauseEntered c s literals₀ table₀ index₀) s
+  pub starts : starts₁ ≡ set starts₀ (s .clauses + 1) (s .literals + length c)
+  pub literals : literals₁ ≡ clauseEntered c s literals₀ table₀ index₀ .literals
+  pub table : table₁ ≡ clauseEntered c s literals₀ table₀ index₀ .table
+  pub index : index₁ ≡ clauseEntered c s literals₀ table₀ index₀ .index
+
+abbrev pub ClauseRead : Asked Clause → LineRead → Sizes → List ℕ → List ℕ → List ℕ → List ℕ → List ℕ → List ℕ → List ℕ → List ℕ → Type 0
+ClauseRead (no q) r s starts₀ starts₁ literals₀ literals₁ table₀ table₁ index₀ index₁ = r ≡ No q
+ClauseRead (yes c) r s starts₀ starts₁ literals₀ literals₁ table₀ table₁ index₀ index₁ = ClauseHeld c r s starts₀ starts₁ literals₀ literals₁ table₀ table₁ index₀ index₁
+
+-- what the readers ask of the sizes and arrays: that they keep the limits
+pub record Ready (s : Sizes) (arities₀ index₀ : List ℕ) : Type 0 where
+  pub constants : s .constants ≤ 32
+  pub symbols : s .symbols ≤ 16
+  pub arity : (i : ℕ) → getD (take (s .symbols) arities₀) i 0 ≤ 3
+  pub rules : s .rules ≤ 32
+  pub clauses : s .clauses ≤ 64
+  pub atoms : s .atoms ≤ 64
+  pub literals : s .literals ≤ 8 * s .clauses
+  pub index : (code : ℕ) → getD index₀ code 0 ≤ s .atoms
+
+-- ── a line of any kind, and the arrays that it changes ──
+
+unfoldable pub withArities : Arrays → List ℕ → Arrays
+withArities a xs = arrays xs (a .rules) (a .starts) (a .literals) (a .table) (a .index)
+
+unfoldable pub withRules : Arrays → List ℕ → Arrays
+withRules a xs = arrays (a .arities) xs (a .starts) (a .literals) (a .table) (a .index)
+
+unfoldable pub withEntered : Arrays → List ℕ → Entered → Arrays
+withEntered a starts e = arrays (a .arities) (a .rules) starts (e .literals) (e .table) (e .index)
+
+abbrev pub ConstantsHeld : Asked ℕ → LineRead → Sizes → Arrays → Arrays → Type 0
+ConstantsHeld (no q) r s before after = r ≡ No q
+ConstantsHeld (yes n) r s before after = (r ≡ Yes (moreConstants n s)) × (after ≡ before)
+
+abbrev pub SymbolHeld : Asked ℕ → LineRead → Sizes → Arrays → Arrays → Type 0
+SymbolHeld (no q) r s before after = r ≡ No q
+SymbolHeld (yes n) r s before after = (r ≡ Yes (moreSymbols s)) × (after ≡ withArities before (set (before .arities) (s .symbols) n))
+
+abbrev pub RuleHeld : Asked Rule → LineRead → Sizes → Arrays → Arrays → Type 0
+RuleHeld (no q) r s before after = r ≡ No q
+RuleHeld (yes x) r s before after = (r ≡ Yes (moreRules s)) × (after ≡ withRules before (sets (before .rules) (22 * s .rules) (ruleWords x)))
+
+abbrev pub ClauseEntersHeld : Asked Clause → LineRead → Sizes → Arrays → Arrays → Type 0
+ClauseEntersHeld (no q) r s before after = r ≡ No q
+ClauseEntersHeld (yes c) r s before after =
+    (r ≡ clauseAnswer (clauseEntered c s (before .literals) (before .table) (before .index)) s)
+    × (after ≡ withEntered before (set (before .starts) (s .clauses + 1) (s .literals + length c)) (clauseEntered c s (before .literals) (before .table) (before .index)))
+
+-- 8 to 13 of a line of kind k, of its columns behind the kind
+abbrev pub LineHeld : ℕ → List Number → LineRead → Sizes → Arrays → Arrays → Type 0
+LineHeld k ns r s before after =
+    elim (eqb k 1) [
+      | true ↦ ConstantsHeld (constantsAsked ns) r s before after
+      | false ↦ elim (eqb k 2) [
+        | true ↦ SymbolHeld (arityAsked (s .symbols) ns) r s before after
+        | false ↦ elim (eqb k 3) [
+          | true ↦ RuleHeld (ruleAsked (s .constants) (take (s .symbols) (before .arities)) (s .rules) ns) r s before after
+          | false ↦ ClauseEntersHeld (clauseAsked (s .constants) (take (s .symbols) (before .arities)) (s .clauses) ns) r s before after
+        ]
+      ]
+    ]
+
+-- questions 4 to 6 of a line: 0, or the number of the one that is answered no
+unfoldable pub columnsAsked : Line → Asked (List Number)
+columnsAsked l = do
+  ask 4 (l .ended)
+  ask 5 (goodLength (length (l .bytes)))
+  columns (l .bytes)
+
+unfoldable pub columnsRead : ℕ → List Number → Asked (List Number)
+columnsRead zero ns = yes ns
+columnsRead (suc q) ns = no (suc q)
+
+-- the whole sheet: the refusal, or the sizes and the arrays that hold the problem
+abbrev pub SheetRead : Reading → Read → Arrays → Arrays → Type 0
+SheetRead (refused q n) r before after = r ≡ Refused (record { number = q; line = n })
+SheetRead (accepted p) r before after = (r ≡ Accepted (sizesOf p)) × (after ≡ hold p before)

@@ -1,0 +1,275 @@
+-- One line more: what the reader of a line leaves in the arrays is what the questions read, and so for the whole sheet.
+-- Assumes nothing.
+use Prim.Native.Nat.{ℕ, zero, suc, _+_, _*_, _≤_}
+use mathlib.Core.Path.{_≡_, refl, sym, ap, subst, _∙_}
+use mathlib.Core.Logic.{_⊎_, inl, inr}
+use mathlib.Core.Bool.{Bool, true, false}
+use mathlib.Core.List.{List, [], _∷_, _++_, map, append-nil, List·Memᴰ·not-nil}
+use native.Mathlib.Omega.{arith}
+use lib.Dec.{eqb, leb, ltb}
+use lib.ListN.{length, getD, set, take, length-append}
+use lib.Seq.{sets}
+use borrow.Author.Tests.{eqb-true}
+use Rattle.definitions.specs.Lists.{_∈_, isEmpty, joined, distinct}
+use Rattle.definitions.specs.Words.{Literal, Clause, Rule, Problem, goalAtoms}
+use Rattle.definitions.specs.Sheet.{Line, Number}
+use Rattle.definitions.specs.Questions.{Asked, no, yes, _>>=_, _>>_, ask, columns, Walk, count, kindOf, literals, clauseArgument, ruleArgument, literalOf, patternOf, patterns, clauseLiterals, restricted, withConstants, withSymbol, withRule, withClause, constantsLine, symbolLine, ruleLine, clauseLine, lineOfKind, goodLength, Draft, readLine, emptyDraft}
+use Rattle.theory.specs.Tests.{by-test, apart}
+use Rattle.theory.specs.ListLaws.{joined-append, joined-length}
+use Rattle.theory.specs.AskedLaws.{by-asked, bind-yes, ask-yes}
+use Rattle.theory.specs.Limits.{LiteralLimits, Limits, arity-limit, clause-literals-limits, Begun}
+use Rattle.column.specs.Sets.{front}
+use Rattle.sheet.specs.Rows.{kindHere, kindAsked}
+use Rattle.sheet.specs.RowLaws.{kind-here}
+use Rattle.sheet.specs.Slots.{asPattern, slotWords, ruleWords}
+use Rattle.sheet.specs.Entering.{Entered, entered, enterSlots}
+use Rattle.sheet.specs.Encoding.{Arrays, arrays, emptyIndex, sizesOf, hold, startsFrom}
+use Rattle.sheet.specs.EncodingLaws.{enteredOf, Encodable, limits-encodable, hold-index-within, clause-held, hold-symbol, hold-rule, hold-clause}
+use Rattle.sheet.specs.LineReads.{constantsAsked, arityAsked, ruleAsked, clauseAsked, moreConstants, moreSymbols, moreRules, moreClauses, clauseEntered, clauseAnswer, Ready, withArities, withRules, withEntered, ConstantsHeld, SymbolHeld, RuleHeld, ClauseEntersHeld, LineHeld, columnsAsked}
+use Rattle.sheet.specs.declared.Sizes.{Sizes}
+use Rattle.sheet.specs.declared.LineRead.{LineRead}
+use Rattle.sheet.specs.declared.LineRead.the-variants.{No, Yes}
+
+-- ── the questions of a line, with the problem left out ──
+
+constants-asked : (p : Problem) (ns : List Number) → constantsLine p ns ≡ (constantsAsked ns >>= λ n. yes (withConstants p n))
+unfolding constantsLine constantsAsked _>>=_ _>>_ ask
+constants-asked p ns = by-asked (count 8 1 32 ns) (λ q e. cc) (λ w e. by-test (isEmpty (w .left)) (λ t. cc) (λ t. cc))
+
+arity-asked : (p : Problem) (ns : List Number) → symbolLine p ns ≡ (arityAsked (length (p .arities)) ns >>= λ n. yes (withSymbol p n))
+unfolding symbolLine arityAsked _>>=_ _>>_ ask
+arity-asked p ns =
+    by-asked (count 8 0 3 ns)
+    (λ q e. cc)
+    (λ w e. by-test (ltb (length (p .arities)) 16) (λ t. by-test (isEmpty (w .left)) (λ u. cc) (λ u. cc)) (λ t. cc))
+
+rule-asked : (p : Problem) (ns : List Number) → ruleLine p ns ≡ (ruleAsked (p .constants) (p .arities) (length (p .rules)) ns >>= λ r. yes (withRule p r))
+unfolding ruleLine ruleAsked patterns _>>=_ _>>_ ask
+rule-asked p ns =
+    by-asked (count 8 1 3 ns)
+    (λ q e. cc)
+    (λ h e. by-asked (count 8 0 2 (h .left))
+    (λ q f. cc)
+    (λ b f. by-test (ltb (length (p .rules)) 32)
+    (λ t. by-asked (literals (ruleArgument (p .constants)) patternOf (p .arities) (h .found) (b .left))
+    (λ q g. cc)
+    (λ heads g. by-asked (literals (ruleArgument (p .constants)) patternOf (p .arities) (b .found) (heads .left))
+    (λ q i. cc)
+    (λ body i. by-test (isEmpty (body .left))
+    (λ u. by-test (restricted (record { heads = heads .found; body = body .found })) (λ v. cc) (λ v. cc))
+    (λ u. cc))))
+    (λ t. cc)))
+
+clause-asked : (p : Problem) (ns : List Number)
+    → clauseLine p ns ≡ (clauseAsked (p .constants) (p .arities) (length (p .clauses)) ns
+    >>= λ c. ask 13 (leb (length (goalAtoms (withClause p c .clauses))) 64) >> yes (withClause p c))
+unfolding clauseLine clauseAsked clauseLiterals _>>=_ _>>_ ask
+clause-asked p ns =
+    by-asked (count 8 0 8 ns)
+    (λ q e. cc)
+    (λ n e. by-test (ltb (length (p .clauses)) 64)
+    (λ t. by-asked (literals (clauseArgument (p .constants)) literalOf (p .arities) (n .found) (n .left))
+    (λ q f. cc)
+    (λ c f. by-test (isEmpty (c .left)) (λ u. cc) (λ u. cc)))
+    (λ t. cc))
+
+clause-limits : (p : Problem) (ns : List Number) (c : Clause) → clauseAsked (p .constants) (p .arities) (length (p .clauses)) ns ≡ yes c
+    → (l : Literal) → l ∈ c → LiteralLimits p l
+unfolding clauseAsked clauseLiterals
+clause-limits p ns c e =
+    let (n, h₁, e₁) = bind-yes (count 8 0 8 ns) _ c e in
+    let (_, e₂) = ask-yes 9 (ltb (length (p .clauses)) 64) _ c e₁ in
+    let (w, h₃, e₃) = bind-yes (literals (clauseArgument (p .constants)) literalOf (p .arities) (n .found) (n .left)) _ c e₂ in
+    let (_, e₄) = ask-yes 11 (isEmpty (w .left)) _ c e₃ in
+    let q : w .found ≡ c = cc in
+    subst (λ ls. (l : Literal) → l ∈ ls → LiteralLimits p l) q (clause-literals-limits p (n .found) (n .left) w h₃)
+
+literals-more : (p : Problem) (c : Clause) → length (joined (λ (x : Clause). x) (withClause p c .clauses)) ≡ length (joined (λ (x : Clause). x) (p .clauses)) + length c
+unfolding withClause joined
+literals-more p c =
+    omega (arith, ap length (joined-append (λ (x : Clause). x) (p .clauses) (c ∷ [])), length-append (joined (λ (x : Clause). x) (p .clauses)) (c ++ []), ap length (append-nil c))
+
+-- ── the arrays of a draft ──
+
+-- a draft before its first line, or after some
+abbrev pub Started : Draft → Type 0
+Started d = (d ≡ emptyDraft) ⊎ Begun d
+
+module _ (before : Arrays) (empty : before .index ≡ emptyIndex) (wide : length (before .arities) ≡ 16) where
+  held-arities : (p : Problem) → length (p .arities) ≤ 16 → take (length (p .arities)) (hold p before .arities) ≡ p .arities
+  unfolding hold
+  held-arities p h = front (before .arities) (p .arities) (omega arith)
+
+  limits-ready : (p : Problem) → Limits p → Ready (sizesOf p) (hold p before .arities) (hold p before .index)
+  unfolding sizesOf
+  limits-ready p l =
+      record {
+        constants = l .constants;
+        symbols = l .symbols;
+        arity = λ i. rw (held-arities p (l .symbols)) (arity-limit p l i);
+        rules = l .rules;
+        clauses = l .clauses;
+        atoms = l .goals;
+        literals = joined-length (λ (c : Clause). c) 8 (p .clauses) (λ c m. l .eachClause c m .literals);
+        index = hold-index-within p before empty;
+      }
+
+  empty-ready : Ready (sizesOf (emptyDraft .problem)) (hold (emptyDraft .problem) before .arities) (hold (emptyDraft .problem) before .index)
+  unfolding sizesOf emptyDraft joined goalAtoms distinct
+  empty-ready =
+      record {
+        constants = omega arith;
+        symbols = omega arith;
+        arity = λ i. omega arith;
+        rules = omega arith;
+        clauses = omega arith;
+        atoms = omega arith;
+        literals = omega arith;
+        index = hold-index-within (emptyDraft .problem) before empty;
+      }
+
+  pub draft-ready : (d : Draft) → Started d → Ready (sizesOf (d .problem)) (hold (d .problem) before .arities) (hold (d .problem) before .index)
+  draft-ready d (inr b) = limits-ready (d .problem) (b .limits)
+  draft-ready d (inl q) =
+      subst (λ (e : Draft). Ready (sizesOf (e .problem)) (hold (e .problem) before .arities) (hold (e .problem) before .index)) (sym q) empty-ready
+
+  started-symbols : (d : Draft) → Started d → length (d .problem .arities) ≤ 16
+  unfolding sizesOf
+  started-symbols d i = draft-ready d i .symbols
+
+  -- ── a line of each kind ──
+
+  -- what the questions come to, what the reader answers, and what the arrays hold then
+  abbrev pub LineNext : Asked Problem → LineRead → Arrays → Type 0
+  LineNext (no q) r after = r ≡ No q
+  LineNext (yes p) r after = (r ≡ Yes (sizesOf p)) × (after ≡ hold p before)
+
+  constants-next : (p : Problem) (m : Asked ℕ) (r : LineRead) (after : Arrays) → ConstantsHeld m r (sizesOf p) (hold p before) after
+      → LineNext (m >>= λ n. yes (withConstants p n)) r after
+  unfolding _>>=_ sizesOf moreConstants withConstants hold
+  constants-next p (no q) r after h = h
+  constants-next p (yes n) r after h = h
+
+  symbol-next : (p : Problem) (m : Asked ℕ) (r : LineRead) (after : Arrays) → SymbolHeld m r (sizesOf p) (hold p before) after
+      → LineNext (m >>= λ n. yes (withSymbol p n)) r after
+  unfolding _>>=_ sizesOf moreSymbols withSymbol withArities
+  symbol-next p (no q) r after h = h
+  symbol-next p (yes n) r after h = (h .0 ∙ ap (λ k. Yes (with-symbols k)) (sym (length-append (p .arities) (n ∷ []))), h .1 ∙ hold-symbol p before n)
+    where
+      with-symbols : ℕ → Sizes
+      with-symbols k = record { constants = p .constants; symbols = k; rules = length (p .rules); clauses = length (p .clauses); atoms = length (goalAtoms (p .clauses)); literals = length (joined (λ (c : Clause). c) (p .clauses)) }
+
+  rule-next : (p : Problem) (m : Asked Rule) (r : LineRead) (after : Arrays) → RuleHeld m r (sizesOf p) (hold p before) after
+      → LineNext (m >>= λ x. yes (withRule p x)) r after
+  unfolding _>>=_ sizesOf moreRules withRule withRules
+  rule-next p (no q) r after h = h
+  rule-next p (yes x) r after h = (h .0 ∙ ap (λ k. Yes (with-rules k)) (sym (length-append (p .rules) (x ∷ []))), h .1 ∙ hold-rule p before x)
+    where
+      with-rules : ℕ → Sizes
+      with-rules k = record { constants = p .constants; symbols = length (p .arities); rules = k; clauses = length (p .clauses); atoms = length (goalAtoms (p .clauses)); literals = length (joined (λ (c : Clause). c) (p .clauses)) }
+
+  clause-sizes : (p : Problem) (c : Clause) → moreClauses (enteredOf (withClause p c) before) (sizesOf p) ≡ sizesOf (withClause p c)
+  unfolding moreClauses sizesOf withClause
+  clause-sizes p c = ap with-clauses (sym (length-append (p .clauses) (c ∷ [])))
+    where
+      with-clauses : ℕ → Sizes
+      with-clauses k = record { constants = p .constants; symbols = length (p .arities); rules = length (p .rules); clauses = k; atoms = length (goalAtoms (p .clauses ++ (c ∷ []))); literals = length (joined (λ (x : Clause). x) (p .clauses ++ (c ∷ []))) }
+
+  -- the answer and the arrays once the clause has entered
+  entered-next : (p : Problem) (c : Clause) (e : Entered) → e ≡ enteredOf (withClause p c) before → (r : LineRead) (after : Arrays) (ends : ℕ)
+      → ends ≡ length (joined (λ (x : Clause). x) (withClause p c .clauses))
+      → r ≡ clauseAnswer e (sizesOf p)
+      → after ≡ withEntered (hold p before) (set (hold p before .starts) (length (p .clauses) + 1) ends) e
+      → LineNext (ask 13 (leb (length (goalAtoms (withClause p c .clauses))) 64) >> yes (withClause p c)) r after
+  unfolding _>>_ ask clauseAnswer withEntered
+  entered-next p c e q r after ends f h g =
+      by-test (leb (length (goalAtoms (withClause p c .clauses))) 64)
+      (λ t. rw (t, ask) (h ∙ ap answer q ∙ rw (t, clauseAnswer) (ap Yes (clause-sizes p c)), g ∙ rw (f ∙ ap (λ (x : Entered). x .count) (sym q)) (hold-clause p before c e q)))
+      (λ t. rw (t, ask) (h ∙ ap answer q ∙ rw (t, clauseAnswer) refl))
+    where
+      answer : Entered → LineRead
+      answer x = clauseAnswer x (sizesOf p)
+
+  clause-next : (p : Problem) → Encodable p → (m : Asked Clause) → ((c : Clause) → m ≡ yes c → (l : Literal) → l ∈ c → LiteralLimits p l)
+      → (r : LineRead) (after : Arrays) → ClauseEntersHeld m r (sizesOf p) (hold p before) after
+      → LineNext (m >>= λ c. ask 13 (leb (length (goalAtoms (withClause p c .clauses))) 64) >> yes (withClause p c)) r after
+  unfolding _>>=_ sizesOf clauseEntered
+  clause-next p limits (no q) keeps r after h = h
+  clause-next p limits (yes c) keeps r after h =
+      entered-next p c (clauseEntered c (sizesOf p) (hold p before .literals) (hold p before .table) (hold p before .index))
+      (clause-held p limits before empty c (keeps c refl) (slotWords (map asPattern c)) [] (sym (append-nil (slotWords (map asPattern c)))))
+      r after (length (joined (λ (x : Clause). x) (p .clauses)) + length c) (sym (literals-more p c)) (h .0) (h .1)
+
+  -- ── a line of any kind ──
+
+  started-encodable : (d : Draft) → Started d → Encodable (d .problem)
+  started-encodable d (inr b) = limits-encodable (d .problem) (b .limits)
+  started-encodable d (inl q) = subst (λ (e : Draft). Encodable (e .problem)) (sym q) nothing
+    where
+      nothing : Encodable (emptyDraft .problem)
+      nothing = unfold emptyDraft in record { codes = record { few = omega arith; symbols = omega arith; eachArity = λ n m. absurd (List·Memᴰ·not-nil m) }; literals = λ c m. absurd (List·Memᴰ·not-nil m) }
+
+  kind-next : (d : Draft) → Started d → (k : ℕ) (ns : List Number) (r : LineRead) (after : Arrays)
+      → LineHeld k ns r (sizesOf (d .problem)) (hold (d .problem) before) after → LineNext (lineOfKind k (d .problem) ns) r after
+  unfolding lineOfKind sizesOf
+  kind-next d i k ns r after h = by-kind (eqb k 1) (eqb k 2) (eqb k 3) h
+    where
+      p : Problem
+      p = d .problem
+
+      by-kind : (one two three : Bool)
+          → elim one as (λ (b : Bool). Type 0) [ true ↦ ConstantsHeld (constantsAsked ns) r (sizesOf p) (hold p before) after | false ↦ elim two as (λ (b : Bool). Type 0) [ true ↦ SymbolHeld (arityAsked (sizesOf p .symbols) ns) r (sizesOf p) (hold p before) after | false ↦ elim three as (λ (b : Bool). Type 0) [ true ↦ RuleHeld (ruleAsked (sizesOf p .constants) (take (sizesOf p .symbols) (hold p before .arities)) (sizesOf p .rules) ns) r (sizesOf p) (hold p before) after | false ↦ ClauseEntersHeld (clauseAsked (sizesOf p .constants) (take (sizesOf p .symbols) (hold p before .arities)) (sizesOf p .clauses) ns) r (sizesOf p) (hold p before) after ] ] ]
+          → LineNext (elim one [ true ↦ constantsLine p ns | false ↦ elim two [ true ↦ symbolLine p ns | false ↦ elim three [ true ↦ ruleLine p ns | false ↦ clauseLine p ns ] ] ]) r after
+      by-kind true two three g = rw (constants-asked p ns) (constants-next p (constantsAsked ns) r after g)
+      by-kind false true three g = rw (arity-asked p ns) (symbol-next p (arityAsked (length (p .arities)) ns) r after g)
+      by-kind false false true g = rw (rule-asked p ns) (rule-next p (ruleAsked (p .constants) (p .arities) (length (p .rules)) ns) r after (rw (held-arities p (started-symbols d i)) at g))
+      by-kind false false false g =
+          rw (clause-asked p ns)
+          (clause-next p (started-encodable d i) (clauseAsked (p .constants) (p .arities) (length (p .clauses)) ns) (clause-limits p ns) r after (rw (held-arities p (started-symbols d i)) at g))
+
+-- ── the questions of a line, from the columns on ──
+
+-- the line behind its columns
+unfoldable pub afterColumns : Draft → List Number → Asked Draft
+afterColumns d ns = do
+  k ← kindOf (d .before) ns
+  p ← lineOfKind (k .found) (d .problem) (k .left)
+  yes (record { before = k .found; problem = p })
+
+line-columns : (d : Draft) (l : Line) → readLine d l ≡ (columnsAsked l >>= afterColumns d)
+unfolding readLine columnsAsked afterColumns _>>=_ _>>_ ask
+line-columns d l =
+    by-test (l .ended)
+    (λ t. by-test (goodLength (length (l .bytes)))
+    (λ u. by-asked (columns (l .bytes)) (λ q e. cc) (λ ns e. cc))
+    (λ u. cc))
+    (λ t. cc)
+
+-- 4 to 6 are answered no, or 7
+pub columns-refused : (d : Draft) (l : Line) (q : ℕ) → columnsAsked l ≡ no q → readLine d l ≡ no q
+unfolding _>>=_
+columns-refused d l q e = line-columns d l ∙ cc
+
+pub kind-refused : (d : Draft) (l : Line) (n : Number) (ns : List Number) → columnsAsked l ≡ yes (n ∷ ns) → kindHere (d .before) n ≡ 0 → readLine d l ≡ no 7
+unfolding _>>=_ afterColumns kindAsked
+kind-refused d l n ns e k = line-columns d l ∙ cc (kind-here (d .before) n ns)
+
+kind-found : (d : Draft) (l : Line) (n : Number) (ns : List Number) (k : ℕ) → columnsAsked l ≡ yes (n ∷ ns) → kindHere (d .before) n ≡ suc k
+    → readLine d l ≡ (lineOfKind (suc k) (d .problem) ns >>= λ p. yes (record { before = suc k; problem = p }))
+unfolding _>>=_ afterColumns kindAsked
+kind-found d l n ns k e f = line-columns d l ∙ cc (kind-here (d .before) n ns)
+
+module _ (before : Arrays) (empty : before .index ≡ emptyIndex) (wide : length (before .arities) ≡ 16) where
+  -- what a line comes to, what the reader answers, and what the arrays hold then
+  abbrev pub LineEnds : Asked Draft → ℕ → LineRead → Arrays → Type 0
+  LineEnds (no q) k r after = r ≡ No q
+  LineEnds (yes e) k r after = (e .before ≡ k) × (r ≡ Yes (sizesOf (e .problem))) × (after ≡ hold (e .problem) before)
+
+  pub line-ends : (d : Draft) → Started d → (l : Line) (n : Number) (ns : List Number) (k : ℕ) → columnsAsked l ≡ yes (n ∷ ns) → kindHere (d .before) n ≡ suc k
+      → (r : LineRead) (after : Arrays) → LineHeld (suc k) ns r (sizesOf (d .problem)) (hold (d .problem) before) after → LineEnds (readLine d l) (suc k) r after
+  line-ends d i l n ns k e f r after h =
+      rw (kind-found d l n ns k e f) (from (lineOfKind (suc k) (d .problem) ns) (kind-next before empty wide d i (suc k) ns r after h))
+    where
+      from : (m : Asked Problem) → LineNext before empty wide m r after → LineEnds (m >>= λ p. yes (record { before = suc k; problem = p })) (suc k) r after
+      from (no q) g = unfold _>>=_ in g
+      from (yes p) g = unfold _>>=_ in (refl, g .0, g .1)

@@ -1,0 +1,146 @@
+// A sheet's bytes to the problem's arrays, question by question.
+mod rows; // rows.rt: lines, and the columns of a line as words
+mod slots; // slots.rt: the literals of a line
+mod enter; // enter.rt: a clause into the arrays
+mod lines; // lines.rt: a line of each kind
+
+use definitions::Refusal;
+ghost use mathlib.Core.Path.{_≡_};
+ghost use Prim.Native.Nat.{ℕ, _+_, _-_, _/_, _≤_, _<_};
+ghost use lib.ListN.{length, take, drop};
+ghost use Rattle.definitions.specs.Questions.{read};
+ghost use Rattle.sheet.specs.Rows.{numbers};
+ghost use Rattle.sheet.specs.Encoding.{arrays, emptyIndex};
+ghost use Rattle.sheet.specs.LineReads.{Ready, LineHeld, SheetRead};
+
+// How much of each array is in use.
+pub struct Sizes {
+    pub constants: usize,
+    pub symbols: usize,
+    pub rules: usize,
+    pub clauses: usize,
+    pub atoms: usize,
+    pub literals: usize,
+}
+
+// The first question that is answered no, or the sizes of what was read.
+pub enum Read {
+    Refused(Refusal),
+    Accepted(Sizes),
+}
+
+// A line: the question that is answered no, or the sizes with the line.
+pub enum LineRead {
+    No(u8),
+    Yes(Sizes),
+}
+
+// A line of kind k, from its columns behind the kind.
+fn line_of_kind(
+    kind: usize,
+    row: &[u16; 34],
+    n: usize,
+    s: Sizes,
+    slots: &mut [u16; 32],
+    arities: &mut [u8; 16],
+    rules: &mut [u16; 704],
+    starts: &mut [u16; 578],
+    literals: &mut [u16; 2568],
+    table: &mut [u32; 256],
+    index: &mut [u16; 524288],
+) -> LineRead
+    requires { ⌜ (1 ≤ n) × (n ≤ 34) × Ready s (now arities) (now index) ⌝ }
+    ensures { λ r. ⌜ LineHeld kind (drop 1 (numbers n (now (row .entry)))) r s
+        (arrays (now (arities .entry)) (now (rules .entry)) (now (starts .entry)) (now (literals .entry)) (now (table .entry)) (now (index .entry)))
+        (arrays (now (arities .exit)) (now (rules .exit)) (now (starts .exit)) (now (literals .exit)) (now (table .exit)) (now (index .exit))) ⌝ }
+{
+    if kind == 1 {
+        return lines::constants_line(row, n, s);
+    }
+    if kind == 2 {
+        return lines::symbol_line(row, n, s, arities);
+    }
+    if kind == 3 {
+        return lines::rule_line(row, n, s, arities, slots, rules);
+    }
+    lines::clause_line(row, n, s, arities, slots, starts, literals, table, index)
+}
+
+// Reads a sheet into the arrays. The index must be empty; the others may hold anything, and keep it behind what is read.
+// After a refusal the arrays hold what had been read; document 01 leaves that free, and nothing is said of it.
+pub fn read_sheet(
+    sheet: &[u8],
+    arities: &mut [u8; 16],
+    rules: &mut [u16; 704],
+    starts: &mut [u16; 578],
+    literals: &mut [u16; 2568],
+    table: &mut [u32; 256],
+    index: &mut [u16; 524288],
+) -> Read
+    requires { ⌜ now index ≡ emptyIndex ⌝ }
+    ensures { λ r. ⌜ SheetRead (read (now (sheet .entry))) r
+        (arrays (now (arities .entry)) (now (rules .entry)) (now (starts .entry)) (now (literals .entry)) (now (table .entry)) (now (index .entry)))
+        (arrays (now (arities .exit)) (now (rules .exit)) (now (starts .exit)) (now (literals .exit)) (now (table .exit)) (now (index .exit))) ⌝ }
+{
+    if 16384 < sheet.len() {
+        return Read::Refused(Refusal { number: 2, line: 0 });
+    }
+    if sheet.len() == 0 {
+        return Read::Refused(Refusal { number: 3, line: 0 });
+    }
+    // Lent as a slice, the array shows its length, which the proof needs.
+    let _whole: &[u8] = arities;
+    let mut row = [0u16; 34];
+    let mut slots = [0u16; 32];
+    let mut s = Sizes {
+        constants: 0,
+        symbols: 0,
+        rules: 0,
+        clauses: 0,
+        atoms: 0,
+        literals: 0,
+    };
+    let mut before: usize = 0;
+    let mut from: usize = 0;
+    let mut line: u16 = 1;
+    starts[0] = 0;
+    while from < sheet.len() {
+        let end = rows::line_end(sheet, from);
+        let fault = rows::read_line(sheet, from, end, &mut row);
+        if fault != 0 {
+            return Read::Refused(Refusal {
+                number: fault,
+                line,
+            });
+        }
+        let kind = rows::kind_here(before, row[0]);
+        if kind == 0 {
+            return Read::Refused(Refusal { number: 7, line });
+        }
+        let n = (end - from) / 4;
+        match line_of_kind(
+            kind,
+            &row,
+            n,
+            s,
+            &mut slots,
+            arities,
+            rules,
+            starts,
+            literals,
+            table,
+            index,
+        ) {
+            LineRead::No(q) => {
+                return Read::Refused(Refusal { number: q, line });
+            }
+            LineRead::Yes(t) => {
+                s = t;
+            }
+        }
+        before = kind;
+        from = end + 1;
+        line += 1;
+    }
+    Read::Accepted(s)
+}
