@@ -35,7 +35,7 @@ CountsTell budget Unknown s = Counted budget s
 CountsTell budget Spent s = Counted budget s
 CountsTell budget Full s = Counted budget s
 
-step-counts : (k : Task) (budget : ℕ) (s : State) → Counted budget s → (o : Outcome) → Step k budget s o → After (Counted budget) (CountsTell budget) o
+pub step-counts : (k : Task) (budget : ℕ) (s : State) → Counted budget s → (o : Outcome) → Step k budget s o → After (Counted budget) (CountsTell budget) o
 unfolding setUnit logInstance decide afterConflict standing
 step-counts k budget s c o (unit l e) = record { balance = c .balance; within = c .within }
 step-counts k budget s c o (undone t e b) = record { balance = omega (arith, c .balance, backtrack-standing (s .trail) t b); within = c .within }
