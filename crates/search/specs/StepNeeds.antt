@@ -1,0 +1,146 @@
+-- What the calls of a step ask for, wherever the machine stands for a state of a search. Assumes nothing.
+use Prim.Native.Nat.{ℕ, zero, suc, _+_, _≤_, _<_, _^_}
+use mathlib.Core.Path.{_≡_, refl, sym, _∙_, subst}
+use mathlib.Core.Bool.{Bool, true}
+use mathlib.Core.Option.{Option, none, some}
+use mathlib.Core.List.{List}
+use native.Mathlib.Omega.{arith}
+use lib.Dec.{eqb}
+use lib.ListN.{length, getD}
+use borrow.Author.Tests.{eqb-false}
+use Rattle.definitions.specs.Lists.{_∈_}
+use Rattle.definitions.specs.Words.{Atom, Literal, plain, Problem}
+use Rattle.definitions.specs.Instances.{taskOf}
+use Rattle.definitions.specs.Search.{State, Act, conflict, force, nextGoal, backtrack}
+use Rattle.theory.specs.Tests.{by-test, by-option, apart, none≢some, not-true, and-left}
+use Rattle.theory.specs.ListLaws.{all-each}
+use Rattle.sheet.specs.Encoding.{literalWord}
+use Rattle.sheet.specs.CodeLaws.{index-within}
+use Rattle.search.specs.Units.{actFrom, ClausesFit}
+use Rattle.search.specs.Standing.{actWord}
+use Rattle.search.specs.TrailWords.{latestDecision, firstUnset}
+use Rattle.search.specs.PositionLaws.{word-small}
+use Rattle.search.specs.TrailLaws.{words-small}
+use Rattle.search.specs.Walk.{codeUnder, trueUnder, headSlots, ruleVariables, fillingOf, firesUnder, firesAt, firstFrom, fillingCount, walkFrom, RulesFit, IndexFits}
+use Rattle.search.specs.PlaceLaws.{getElem-in}
+use Rattle.search.specs.RuleLaws.{rules-fit}
+use Rattle.search.specs.WalkStands.{WalkAs}
+use Rattle.search.specs.Logging.{LogFits}
+use Rattle.search.specs.LogLaws.{found-below, fewer-fit}
+use Rattle.search.specs.Machine.{Machine, logIn, Stands, Running}
+use Rattle.search.specs.StandsLaws.{room-for, act-as, unit-unset, back-none, back-some, walk-as, goal-unset, goal-none, goal-some}
+use Rattle.search.specs.declared.Run.{Run}
+use Rattle.search.specs.declared.Act.the-variants.{Force, Nothing}
+use Rattle.search.specs.declared.Found.the-variants.{Instance}
+
+-- a word is forced where a literal is
+force-of : (table : List Atom) (o : Option Act) (w : ℕ) → actWord table o ≡ Force w → (l : Literal) × (o ≡ some (force l)) × (w ≡ literalWord table l)
+unfolding actWord
+force-of table none w e = apart (cc)
+force-of table (some conflict) w e = apart (cc)
+force-of table (some (force l)) w e = (l, refl, cc)
+
+first-passes : (test : ℕ → Bool) (f k g : ℕ) → firstFrom test f k ≡ some g → test g ≡ true
+unfolding firstFrom
+first-passes test f zero g e = none≢some e
+first-passes test f (suc k) g e = by-test (test f) (λ b. cc) (λ b. first-passes test (suc f) k g (cc))
+
+module _ (values index rules : List ℕ) (n : ℕ) where
+  -- what the walk finds fires
+  walk-fires : (at k r f : ℕ) → walkFrom values index rules n at k ≡ Instance r f → firesAt values index rules n r f ≡ true
+  unfolding walkFrom
+  walk-fires at zero r f e = apart (cc)
+  walk-fires at (suc k) r f e =
+      by-option (firstFrom (firesAt values index rules n at) 0 (fillingCount rules n at))
+      (λ q. walk-fires (suc at) k r f (cc))
+      (λ g q. let its : at ≡ r = cc in let it : g ≡ f = cc in rw (← its, ← it) (first-passes (firesAt values index rules n at) 0 (fillingCount rules n at) g q))
+
+  -- so its heads are true, and their atoms are in the index
+  fires-entered : (r f : ℕ) → firesAt values index rules n r f ≡ true → (b : ℕ) → b ∈ headSlots rules r
+      → 1 ≤ getD index (codeUnder rules (fillingOf n (ruleVariables rules r) f) b) 0
+  unfolding firesAt firesUnder trueUnder
+  fires-entered r f e b m =
+      let filling = fillingOf n (ruleVariables rules r) f in
+      let heads = and-left _ _ (and-left _ _ e) in
+      let here = all-each (trueUnder values index rules filling) (headSlots rules r) heads b m in
+      let place = getD index (codeUnder rules filling b) 0 in
+      let other = eqb-false place 0 (not-true (eqb place 0) (and-left _ _ here)) in
+      omega (arith, other)
+
+module _ (budget : ℕ) (rules : List ℕ) (m : Machine) (run : Run) (constants count given goals : ℕ) (running : Running budget rules m run constants count given goals) where
+  abbrev p : Problem
+  p = running .problem
+
+  abbrev s : State
+  s = running .state
+
+  abbrev h : Stands (running .problem) budget (running .state) m run
+  h = running .stands
+
+  -- step A
+  pub units-fit : (goals ≤ 256) × ClausesFit (m .starts) (m .literals) (m .heads) given (run .clauses)
+  units-fit = (omega (arith, running .itsGoals, running .rulesStand .limits .goals), rw (running .itsClauses) (h .log .fit))
+
+  -- a unit
+  pub unit-fits : (w : ℕ) → actFrom (m .values) (m .starts) (m .literals) (m .heads) given goals 0 (run .clauses) ≡ Force w → (run .set < 256) × (w < 512)
+  unit-fits w e =
+      let acts = sym (act-as p budget s m run h) ∙ (rw (running .itsClauses, running .itsGoals) at e) in
+      let (l, q, its) = force-of (s .table) _ w acts in
+      let (inside, unset) = unit-unset p budget s m run h l q in
+      (room-for p budget s m run h l inside unset, rw its (word-small (s .table) l (h .room .table-size) inside))
+
+  -- a conflict: the trail, its words, and the counts
+  pub trail-fits : run .set ≤ 256
+  trail-fits = omega (arith, h .set, Rattle.theory.specs.Ends.trail-length (h .sound .fits))
+
+  pub trail-length : length (m .trail) ≡ 256
+  trail-length = h .room .trail-size
+
+  pub words-fit : (i : ℕ) → i < run .set → getD (m .trail) i 0 < 512
+  words-fit i b = words-small (h .room .table-size) (h .trail) (h .sound .fits .entered) i (omega (arith, h .set))
+
+  pub flip-fits : (at : ℕ) → latestDecision (m .marks) (run .set) ≡ suc at → (at < run .set) × (getD (m .trail) at 0 + 1 < 512)
+  flip-fits at e =
+      by-option (backtrack (s .trail))
+      (λ q. absurd (omega (arith, e, back-none p budget s m run h q)))
+      (λ u q. let d = back-some p budget s m run h u q at e in (omega (arith, h .set, d .within), d .small))
+
+  pub conflicts-fit : run .conflicts + 1 < 2 ^ 64
+  conflicts-fit = omega (arith, h .conflicts, h .counted .balance, h .counted .within, running .small)
+
+  -- step B
+  index-small : IndexFits (m .index) 256
+  index-small code = rw (h .log .index) (omega (arith, index-within (s .table) code, h .room .table-size))
+
+  -- the rule that the walk finds is one of the rules
+
+  pub walk-fits : RulesFit rules constants count × IndexFits (m .index) 256
+  walk-fits = (
+    rw (running .itsConstants, running .itsRules) (rules-fit p (running .rulesStand .limits) rules (running .rulesStand .words)),
+    index-small,
+  )
+
+  pub log-fits : (r f : ℕ) → actFrom (m .values) (m .starts) (m .literals) (m .heads) given goals 0 (run .clauses) ≡ Nothing → walkFrom (m .values) (m .index) rules constants 0 count ≡ Instance r f
+      → RulesFit rules constants (r + 1) × (f < fillingCount rules constants r) × LogFits rules (fillingOf constants (ruleVariables rules r) f) r given (logIn m run)
+  log-fits r f e g = (
+    fewer-fit rules constants count (r + 1) (walk-fits .0) (let b = found-below (m .values) (m .index) rules constants 0 count r f g .0 in omega arith),
+    found-below (m .values) (m .index) rules constants 0 count r f g .1,
+    record {
+      goals = omega (arith, running .itsClauses, running .rulesStand .limits .clauses);
+      behind = omega (arith, running .itsClauses, h .log .clauses);
+      few = omega (arith, running .itsClauses, h .log .clauses, h .log .logFits);
+      atoms = omega (arith, h .log .atoms, h .log .tableFits);
+      room = omega (arith, h .log .used, h .log .logFits, running .rulesStand .limits .clauses);
+      index = index-small;
+      entered = fires-entered (m .values) (m .index) rules constants r f (walk-fires (m .values) (m .index) rules constants 0 count r f g);
+    },
+  )
+
+  -- step C
+  pub goal-fits : (firstUnset (m .values) 0 goals ≡ goals → ⊥) → (firstUnset (m .values) 0 goals < goals) × (run .set < 256)
+  goal-fits n =
+      by-option (nextGoal (taskOf p) s)
+      (λ e. absurd (n (rw (running .itsGoals) (goal-none p budget s m run h e))))
+      (λ a e. let (first, below) = goal-some p budget s m run h a e in
+      let (inside, unset) = goal-unset p budget s m run h a e in
+      (rw (running .itsGoals, first) below, room-for p budget s m run h (plain a) inside unset))
