@@ -8,7 +8,7 @@ use Rattle.definitions.specs.Words.{Problem, goalAtoms}
 use Rattle.definitions.specs.Instances.{taskOf}
 use Rattle.definitions.specs.Search.{State, Outcome, more, done}
 use Rattle.definitions.specs.declared.Verdict.{Verdict}
-use Rattle.theory.specs.Limits.{Limits}
+use Rattle.theory.specs.Limits.{Searchable}
 use Rattle.theory.specs.Counts.{Counted, CountsTell}
 use Rattle.theory.specs.Invariants.{Sound}
 use Rattle.sheet.specs.Encoding.{Arrays, hold}
@@ -65,7 +65,7 @@ StandsAtEnd p budget v s m run = StandsWith (CountsTell budget v s) p s m run
 
 -- the rules stand in their array
 pub record RulesStand (p : Problem) (rules : List ℕ) : Type 0 where
-  pub limits : Limits p
+  pub limits : Searchable p
   pub words : take (22 * length (p .rules)) rules ≡ joined ruleWords (p .rules)
 
 -- a step of the machine stands for a step of the search

@@ -9,7 +9,7 @@ use Rattle.definitions.specs.Lists.{joined}
 use Rattle.definitions.specs.Words.{Problem, goalAtoms}
 use Rattle.definitions.specs.Instances.{taskOf}
 use Rattle.definitions.specs.Search.{start}
-use Rattle.theory.specs.Limits.{Limits}
+use Rattle.theory.specs.Limits.{Searchable}
 use Rattle.theory.specs.Ends.{standing}
 use Rattle.theory.specs.Counts.{Counted}
 use Rattle.theory.specs.Invariants.{Sound, start-sound}
@@ -23,7 +23,7 @@ use Rattle.search.specs.LogStart.{start-holds}
 use Rattle.search.specs.Machine.{machine, Stands, RulesStand}
 
 -- the rules stand first in their array
-pub rules-stand : (p : Problem) → Limits p → (before : Arrays) → length (before .rules) ≡ 704 → RulesStand p (hold p before .rules)
+pub rules-stand : (p : Problem) → Searchable p → (before : Arrays) → length (before .rules) ≡ 704 → RulesStand p (hold p before .rules)
 unfolding hold
 rules-stand p limits before size =
     let words = joined ruleWords (p .rules) in
@@ -34,11 +34,11 @@ start-counted : (p : Problem) (budget : ℕ) → Counted budget (start (taskOf p
 unfolding start standing
 start-counted p budget = record { balance = refl; within = omega arith }
 
-goals-sound : (p : Problem) → Limits p → Sound (taskOf p) (start (taskOf p))
+goals-sound : (p : Problem) → Searchable p → Sound (taskOf p) (start (taskOf p))
 unfolding taskOf
 goals-sound p limits = start-sound (taskOf p) (omega (arith, limits .goals))
 
-pub machine-start : (p : Problem) → Limits p → (budget : ℕ) (before : Arrays) → before .index ≡ emptyIndex
+pub machine-start : (p : Problem) → Searchable p → (budget : ℕ) (before : Arrays) → before .index ≡ emptyIndex
     → length (before .starts) ≡ 578 → length (before .literals) ≡ 2568 → length (before .table) ≡ 256
     → (heads numbers values trail marks : List ℕ) → length heads ≡ 512 → length numbers ≡ 512
     → values ≡ replicate 256 0 → length trail ≡ 256 → length marks ≡ 256

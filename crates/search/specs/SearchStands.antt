@@ -7,7 +7,7 @@ use Rattle.definitions.specs.Words.{Problem}
 use Rattle.definitions.specs.Instances.{Task, taskOf}
 use Rattle.definitions.specs.Search.{State, start, Outcome, more, done, step, run, enough, searchTask, search}
 use Rattle.definitions.specs.declared.Verdict.{Verdict}
-use Rattle.theory.specs.Limits.{Limits}
+use Rattle.theory.specs.Limits.{Searchable}
 use Rattle.theory.specs.Steps.{Falls, kind}
 use Rattle.theory.specs.Ends.{Fits, start-fits, measure, step-falls, start-measure, run-enough}
 use Rattle.search.specs.Machine.{Machine, EndStands}
@@ -34,13 +34,13 @@ module _ (k : Task) (budget : ℕ) (s : State) where
   unfolding run
   run-done n v s′ e = rw (e, run)
 
-pub search-run : (p : Problem) (budget : ℕ) → Limits p → run (taskOf p) budget (suc (measure budget (start (taskOf p)))) (start (taskOf p)) ≡ search p budget
+pub search-run : (p : Problem) (budget : ℕ) → Searchable p → run (taskOf p) budget (suc (measure budget (start (taskOf p)))) (start (taskOf p)) ≡ search p budget
 unfolding search searchTask taskOf
 search-run p budget limits =
     let k = taskOf p in
     run-enough k budget (suc (measure budget (start k))) (enough budget) (start k) (start-fits k (omega (arith, limits .goals))) (omega arith) (start-measure k budget)
 
 -- the machine that has come to the end of that run has come to the end of the search
-pub search-stands : (p : Problem) (budget : ℕ) → Limits p → (r : Ended) (m : Machine)
+pub search-stands : (p : Problem) (budget : ℕ) → Searchable p → (r : Ended) (m : Machine)
     → EndStands p budget (run (taskOf p) budget (suc (measure budget (start (taskOf p)))) (start (taskOf p))) r m → EndStands p budget (search p budget) r m
 search-stands p budget limits r m h = subst (λ (o : Outcome). EndStands p budget o r m) (search-run p budget limits) h

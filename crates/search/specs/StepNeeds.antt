@@ -130,7 +130,7 @@ module _ (budget : ℕ) (rules : List ℕ) (m : Machine) (run : Run) (constants 
       behind = omega (arith, running .itsClauses, h .log .clauses);
       few = omega (arith, running .itsClauses, h .log .clauses, h .log .logFits);
       atoms = omega (arith, h .log .atoms, h .log .tableFits);
-      room = omega (arith, h .log .used, h .log .logFits, running .rulesStand .limits .clauses);
+      room = omega (arith, h .log .used, h .log .logFits, running .rulesStand .limits .literals);
       index = index-small;
       entered = fires-entered (m .values) (m .index) rules constants r f (walk-fires (m .values) (m .index) rules constants 0 count r f g);
     },

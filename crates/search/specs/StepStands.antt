@@ -16,7 +16,7 @@ use Rattle.definitions.specs.declared.Verdict.{Verdict}
 use Rattle.definitions.specs.declared.Verdict.the-variants.{Unsat, Unknown, Spent, Full}
 use Rattle.theory.specs.Tests.{none≢some, some-injective}
 use Rattle.theory.specs.TableLaws.{by-member, enter-known, enter-fresh}
-use Rattle.theory.specs.Limits.{Limits}
+use Rattle.theory.specs.Limits.{Searchable}
 use Rattle.theory.specs.Steps.{Step, unit, undone, refuted, logs, overflows, decides, overspends, rests, kind}
 use Rattle.theory.specs.Counts.{step-counts}
 use Rattle.theory.specs.Invariants.{step-sound}
@@ -72,7 +72,7 @@ module _ (p : Problem) (budget : ℕ) (rules : List ℕ) (rulesStand : RulesStan
   abbrev walk : Found
   walk = walkFrom (m .values) (m .index) rules (p .constants) 0 (length (p .rules))
 
-  abbrev limits : Limits p
+  abbrev limits : Searchable p
   limits = rulesStand .limits
 
   abbrev words : take (22 * length (p .rules)) rules ≡ joined ruleWords (p .rules)

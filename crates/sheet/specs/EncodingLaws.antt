@@ -14,7 +14,7 @@ use Rattle.definitions.specs.Search.{enter}
 use Rattle.theory.specs.ListLaws.{Different}
 use Rattle.theory.specs.WordLaws.{goal-of, goal-from}
 use Rattle.theory.specs.SearchLaws.{enter-new}
-use Rattle.theory.specs.Limits.{LiteralLimits, Limits}
+use Rattle.theory.specs.Limits.{LiteralLimits, Limits, Searchable, limits-searchable}
 use Rattle.column.specs.Sets.{sets-append}
 use Rattle.sheet.specs.Rows.{wordOf}
 use Rattle.sheet.specs.Slots.{asPattern, slotWords, ruleWords}
@@ -121,12 +121,15 @@ pub record Encodable (p : Problem) : Type 0 where
   pub codes : CodeLimits (p .constants) (p .arities)
   pub literals : (c : Clause) → c ∈ p .clauses → (l : Literal) → l ∈ c → LiteralLimits p l
 
-pub limits-encodable : (p : Problem) → Limits p → Encodable p
-limits-encodable p h =
+pub searchable-encodable : (p : Problem) → Searchable p → Encodable p
+searchable-encodable p h =
     record {
       codes = record { few = h .constants; symbols = h .symbols; eachArity = h .eachArity };
       literals = λ c m. h .eachClause c m .eachLiteral;
     }
+
+pub limits-encodable : (p : Problem) → Limits p → Encodable p
+limits-encodable p h = searchable-encodable p (limits-searchable p h)
 
 pub literal-atom : (p : Problem) (l : Literal) → LiteralLimits p l → AtomLimits (p .constants) (p .arities) (l .atom)
 literal-atom p l h = record { symbol = h .symbol; declared = h .declared; args = h .args; inRange = h .inRange }
@@ -136,7 +139,7 @@ goal-limits p h a m =
     let g = goal-from (p .clauses) a m in
     subst (AtomLimits (p .constants) (p .arities)) (g .atom) (literal-atom p (g .literal) (h .literals (g .clause) (g .its) (g .literal) (g .inside)))
 
-words-length : (gs : List Atom) (cs : List Clause) → length (joined (clauseWords gs) cs) ≡ length (joined (λ (c : Clause). c) cs)
+pub words-length : (gs : List Atom) (cs : List Clause) → length (joined (clauseWords gs) cs) ≡ length (joined (λ (c : Clause). c) cs)
 unfolding joined clauseWords
 words-length gs [] = refl
 words-length gs (c ∷ cs) =

@@ -13,8 +13,9 @@ use Rattle.definitions.specs.Words.{Literal, Clause, Term, variable, constant, 
 use Rattle.definitions.specs.Sheet.{Line, putByte, lines, Number}
 use Rattle.definitions.specs.Questions.{Asked, no, yes, _>>=_, _>>_, ask, columns, Walk, within, count, kindOf, ruleArgument, clauseArgument, arguments, literal, literals, patternOf, literalOf, patterns, clauseLiterals, restricted, withConstants, withSymbol, withRule, withClause, constantsLine, symbolLine, ruleLine, clauseLine, lineOfKind, Draft, readLine, accepted, readLines, emptyDraft, read}
 use Rattle.theory.specs.Tests.{by-test, apart, and-left, and-right}
+use Rattle.theory.specs.TableLaws.{enterAll, enter-known, joined-more, atomsOf, goal-atoms-more}
 use Rattle.theory.specs.AskedLaws.{by-asked}
-use Rattle.theory.specs.ListLaws.{Each, each-nil, each-cons, each-append}
+use Rattle.theory.specs.ListLaws.{Each, each-nil, each-cons, each-append, joined-length}
 
 -- ── the limits ──
 
@@ -59,14 +60,43 @@ pub record Limits (p : Problem) : Type 0 where
   pub eachClause : (c : Clause) → c ∈ p .clauses → ClauseLimits p c
   pub goals : length (goalAtoms (p .clauses)) ≤ 64
 
+-- what the search asks of a problem: the same limits, with room for one clause more than a sheet has
+pub record Searchable (p : Problem) : Type 0 where
+  pub someConstant : 1 ≤ p .constants
+  pub constants : p .constants ≤ 32
+  pub symbols : length (p .arities) ≤ 16
+  pub eachArity : (n : ℕ) → n ∈ p .arities → n ≤ 3
+  pub rules : length (p .rules) ≤ 32
+  pub eachRule : (r : Rule) → r ∈ p .rules → RuleLimits p r
+  pub clauses : length (p .clauses) ≤ 65
+  pub eachClause : (c : Clause) → c ∈ p .clauses → ClauseLimits p c
+  pub literals : length (joined (λ (c : Clause). c) (p .clauses)) ≤ 516
+  pub goals : length (goalAtoms (p .clauses)) ≤ 64
+
+-- an accepted sheet's problem is one
+pub limits-searchable : (p : Problem) → Limits p → Searchable p
+limits-searchable p h =
+    record {
+      someConstant = h .someConstant;
+      constants = h .constants;
+      symbols = h .symbols;
+      eachArity = h .eachArity;
+      rules = h .rules;
+      eachRule = h .eachRule;
+      clauses = omega (arith, h .clauses);
+      eachClause = h .eachClause;
+      literals = let few = joined-length (λ (c : Clause). c) 8 (p .clauses) (λ c m. h .eachClause c m .literals) in omega (arith, few, h .clauses);
+      goals = h .goals;
+    }
+
 -- an arity is at most 3; where no symbol is declared, 0 stands for it
+pub arities-limit : (l : List ℕ) → Each (λ k. k ≤ 3) l → (n : ℕ) → getD l n 0 ≤ 3
+arities-limit [] g n = omega arith
+arities-limit (k ∷ l) g zero = g k (List·Memᴰ·head refl)
+arities-limit (k ∷ l) g (suc n) = arities-limit l (λ j m. g j (List·Memᴰ·tail m)) n
+
 pub arity-limit : (p : Problem) → Limits p → (n : ℕ) → getD (p .arities) n 0 ≤ 3
-arity-limit p h n = go (p .arities) n (h .eachArity)
-  where
-    go : (l : List ℕ) (n : ℕ) → Each (λ k. k ≤ 3) l → getD l n 0 ≤ 3
-    go [] n g = omega arith
-    go (k ∷ l) zero g = g k (List·Memᴰ·head refl)
-    go (k ∷ l) (suc n) g = go l n (λ j m. g j (List·Memᴰ·tail m))
+arity-limit p h n = arities-limit (p .arities) (h .eachArity) n
 
 -- ── what holds of whatever the questions let through ──
 
@@ -344,6 +374,37 @@ line-of-later-kind p l k h b ns =
     by-test (eqb k 3)
     (λ e3. rw (e1, e2, e3, lineOfKind) (weaken (rule-line p l ns) (λ q g. (g, λ le. absurd (above le)))))
     (λ e3. rw (e1, e2, e3, lineOfKind) (weaken (clause-line p l ns) (λ q g. (g, λ le. absurd (above le))))))
+
+-- ── one clause more ──
+
+goal-known : (cs : List Clause) (l : Literal) → l .atom ∈ goalAtoms cs → goalAtoms (cs ++ ((l ∷ []) ∷ [])) ≡ goalAtoms cs
+unfolding enterAll atomsOf
+goal-known cs l m = goal-atoms-more cs (l ∷ []) ∙ enter-known (goalAtoms cs) (l .atom) m
+
+-- a sheet's problem with one literal of a goal atom as a further last clause
+pub one-more-searchable : (p : Problem) → Limits p → (l : Literal) → LiteralLimits p l → l .atom ∈ goalAtoms (p .clauses) → Searchable (withClause p (l ∷ []))
+unfolding withClause
+one-more-searchable p h l its goal =
+    let s = limits-searchable p h in
+    let cs = p .clauses ++ ((l ∷ []) ∷ []) in
+    let alone : ClauseLimits p (l ∷ []) = record { literals = omega arith; eachLiteral = each-cons (LiteralLimits p) its (each-nil (LiteralLimits p)) } in
+    record {
+      someConstant = s .someConstant;
+      constants = s .constants;
+      symbols = s .symbols;
+      eachArity = s .eachArity;
+      rules = s .rules;
+      eachRule = λ r m. rule-beside p (p .rules) cs (s .eachRule r m);
+      clauses = omega (arith, length-append (p .clauses) ((l ∷ []) ∷ []), h .clauses);
+      eachClause = λ c m. clause-beside p (p .rules) cs (each-more (ClauseLimits p) (p .clauses) (l ∷ []) (s .eachClause) alone c m);
+      literals = omega (arith, ap length (joined-more (λ (c : Clause). c) (p .clauses) (l ∷ [])), length-append (joined (λ (c : Clause). c) (p .clauses)) (l ∷ []), few-literals);
+      goals = subst (λ gs. length gs ≤ 64) (sym (goal-known (p .clauses) l goal)) (h .goals);
+    }
+  where
+    few-literals : length (joined (λ (c : Clause). c) (p .clauses)) ≤ 512
+    few-literals =
+        let few = joined-length (λ (c : Clause). c) 8 (p .clauses) (λ c m. h .eachClause c m .literals) in
+        omega (arith, few, h .clauses)
 
 -- ── all lines ──
 
