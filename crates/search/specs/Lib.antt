@@ -29,3 +29,4 @@ pub mod StepStands
 pub mod MachineStart
 pub mod Measure
 pub mod SearchStands
+pub mod Loading

@@ -1,8 +1,8 @@
 -- The machine: the search over arrays, and how it stands for a state of the definitions' search. Assumes nothing.
 use Prim.Native.Nat.{ℕ, _*_, _<_, _^_}
 use mathlib.Core.Path.{_≡_}
-use mathlib.Core.List.{List, [], _∷_, _++_}
-use lib.ListN.{length, take}
+use mathlib.Core.List.{List}
+use lib.ListN.{length, take, replicate}
 use Rattle.definitions.specs.Lists.{joined}
 use Rattle.definitions.specs.Words.{Problem, goalAtoms}
 use Rattle.definitions.specs.Instances.{taskOf}
@@ -11,7 +11,8 @@ use Rattle.definitions.specs.declared.Verdict.{Verdict}
 use Rattle.theory.specs.Limits.{Searchable}
 use Rattle.theory.specs.Counts.{Counted, CountsTell}
 use Rattle.theory.specs.Invariants.{Sound}
-use Rattle.sheet.specs.Encoding.{Arrays, hold}
+use Rattle.sheet.specs.Encoding.{Arrays, emptyIndex, sizesOf, hold}
+use Rattle.sheet.specs.declared.Sizes.{Sizes}
 use Rattle.sheet.specs.Slots.{ruleWords}
 use Rattle.search.specs.TrailWords.{TrailStands}
 use Rattle.search.specs.TrailLaws.{Room}
@@ -96,3 +97,28 @@ pub record NumbersStand (p : Problem) (constants count given goals : ℕ) : Type
 abbrev pub EndStands : Problem → ℕ → Outcome → Ended → Machine → Type 0
 EndStands p budget (more s) r m = ⊥
 EndStands p budget (done v s) r m = (r .verdict ≡ v) × StandsAtEnd p budget v s m (r .run)
+
+-- the arrays' lengths
+pub record Lengths (rules starts literals heads numbers table trail marks : List ℕ) : Type 0 where
+  pub ofRules : length rules ≡ 704
+  pub ofStarts : length starts ≡ 578
+  pub ofLiterals : length literals ≡ 2568
+  pub ofHeads : length heads ≡ 512
+  pub ofNumbers : length numbers ≡ 512
+  pub ofTable : length table ≡ 256
+  pub ofTrail : length trail ≡ 256
+  pub ofMarks : length marks ≡ 256
+
+-- a problem stands in the arrays as the reader of a sheet leaves it, and nothing is set
+pub record Loaded (p : Problem) (sizes : Sizes) (rules starts literals heads numbers table index values trail marks : List ℕ) : Type 0 where
+  pub lengths : Lengths rules starts literals heads numbers table trail marks
+  pub limits : Searchable p
+  pub before : Arrays
+  pub empty : before .index ≡ emptyIndex
+  pub counts : sizes ≡ sizesOf p
+  pub itsRules : rules ≡ hold p before .rules
+  pub itsStarts : starts ≡ hold p before .starts
+  pub itsLiterals : literals ≡ hold p before .literals
+  pub itsTable : table ≡ hold p before .table
+  pub itsIndex : index ≡ hold p before .index
+  pub unset : values ≡ replicate 256 0
