@@ -2,15 +2,17 @@
 use Prim.Native.Nat.{ℕ, suc, _<_, _^_}
 use mathlib.Core.Path.{_≡_, refl, sym, ap, subst, _∙_}
 use mathlib.Core.List.{List, map}
-use lib.ListN.{length}
+use lib.ListN.{length, replicate}
 use lib.Seq.{sets, length-sets}
 use Rattle.definitions.specs.Lists.{joined}
 use Rattle.definitions.specs.Words.{Problem, goalAtoms}
 use Rattle.definitions.specs.Instances.{taskOf}
 use Rattle.definitions.specs.Search.{State, start, run, search}
+use Rattle.definitions.specs.Questions.{read, accepted}
 use Rattle.theory.specs.Ends.{measure}
+use Rattle.theory.specs.Limits.{limits-searchable, accepted-limits}
 use Rattle.sheet.specs.Slots.{ruleWords}
-use Rattle.sheet.specs.Encoding.{atomCode, clauseWords, startsFrom, Arrays, hold, sizesOf}
+use Rattle.sheet.specs.Encoding.{atomCode, clauseWords, startsFrom, Arrays, hold, sizesOf, emptyIndex}
 use Rattle.sheet.specs.declared.Sizes.{Sizes}
 use Rattle.search.specs.Machine.{Machine, machine, Stands, RulesStand, NumbersStand, Running, EndStands, Lengths, Loaded}
 use Rattle.search.specs.MachineStart.{rules-stand, machine-start}
@@ -88,3 +90,22 @@ module _ (p : Problem) (sizes : Sizes) (budget : ℕ) (rules starts literals hea
       → EndStands q budget (run (taskOf q) budget (suc (measure budget s)) s) r m)
       → EndStands p budget (search p budget) r m
   loaded-ends r m ends = search-stands p budget (loaded .limits) r m (ends p (start (taskOf p)) loaded-rules loaded-numbers loaded-stands)
+
+-- every sheet that is accepted is read into arrays that can be searched
+pub accepted-loaded : (sheet : List ℕ) (p : Problem) → read sheet ≡ accepted p → (before : Arrays) → before .index ≡ emptyIndex
+    → (heads numbers trail marks : List ℕ) → Lengths (hold p before .rules) (hold p before .starts) (hold p before .literals) heads numbers (hold p before .table) trail marks
+    → Loaded p (sizesOf p) (hold p before .rules) (hold p before .starts) (hold p before .literals) heads numbers (hold p before .table) (hold p before .index) (replicate 256 0) trail marks
+accepted-loaded sheet p read-as before empty heads numbers trail marks lengths =
+    record {
+      lengths = lengths;
+      limits = limits-searchable p (accepted-limits sheet p read-as);
+      before = before;
+      empty = empty;
+      counts = refl;
+      itsRules = refl;
+      itsStarts = refl;
+      itsLiterals = refl;
+      itsTable = refl;
+      itsIndex = refl;
+      unset = refl;
+    }
