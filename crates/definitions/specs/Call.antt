@@ -1,10 +1,9 @@
 -- Document 01: the call on any bytes, budget and room: question 1, what is handed back, and the room afterwards. Assumes nothing.
 use Prim.Native.Nat.{ℕ}
-use mathlib.Core.Bool.{Bool, true, false}
+use mathlib.Core.Bool.{true, false}
 use mathlib.Core.List.{List, [], _∷_, _++_}
 use lib.Dec.{leb}
 use lib.ListN.{length, drop}
-use Rattle.definitions.specs.Sheet.{lines}
 use Rattle.definitions.specs.Questions.{Reading, refused, accepted, read}
 use Rattle.definitions.specs.Search.{State, Outcome, more, done, search}
 use Rattle.definitions.specs.Listing.{answerNumber, listing, refusalLine}

@@ -1,5 +1,4 @@
 -- Document 01, "Words": choices, their closure and its clashes; assignments that satisfy a problem. Assumes nothing.
-use Prim.Native.Nat.{ℕ}
 use mathlib.Core.Path.{_≡_}
 use mathlib.Core.Logic.{_⊎_}
 use mathlib.Core.Bool.{Bool, true, false}

@@ -5,7 +5,7 @@ use mathlib.Core.List.{List, [], _∷_, _++_}
 use lib.Dec.{eqb, leb, ltb}
 use lib.ListN.{length, getD}
 use Rattle.definitions.specs.Lists.{isEmpty, all}
-use Rattle.definitions.specs.Words.{Atom, Literal, Clause, Term, variable, constant, Pattern, Rule, Problem, goalAtoms}
+use Rattle.definitions.specs.Words.{Literal, Clause, Term, variable, constant, Pattern, Rule, Problem, goalAtoms}
 use Rattle.definitions.specs.Instances.{occursIn}
 use Rattle.definitions.specs.Sheet.{Line, lines, Number, Column, number, fault, decimal}
 

@@ -1,14 +1,14 @@
 -- Document 01, "Words": what is said of sheets and calls: accepted, answers, keeps. Assumes nothing.
 use Prim.Native.Nat.{ℕ, _≤_}
 use mathlib.Core.Path.{_≡_}
-use mathlib.Core.Bool.{Bool, true, false, not, _&&_}
+use mathlib.Core.Bool.{Bool, false, not, _&&_}
 use mathlib.Core.List.{List, [], _∷_, _++_, map}
 use lib.Dec.{eqb}
 use lib.ListN.{take, drop}
 use Rattle.definitions.specs.Lists.{_∈_, keep, joined}
 use Rattle.definitions.specs.Words.{Problem}
 use Rattle.definitions.specs.Sheet.{Line, lines, Number, plus, number, decimal}
-use Rattle.definitions.specs.Questions.{Asked, no, yes, columns, accepted, read}
+use Rattle.definitions.specs.Questions.{no, yes, columns, accepted, read}
 use Rattle.definitions.specs.Listing.{answerNumber}
 use Rattle.definitions.specs.Call.{call, listedPart}
 use Rattle.definitions.specs.declared.Verdict.{Verdict}

@@ -1,6 +1,6 @@
 -- What the calls of a step ask for, wherever the machine stands for a state of a search. Assumes nothing.
 use Prim.Native.Nat.{ℕ, zero, suc, _+_, _≤_, _<_, _^_}
-use mathlib.Core.Path.{_≡_, refl, sym, _∙_, subst}
+use mathlib.Core.Path.{_≡_, refl, sym, _∙_}
 use mathlib.Core.Bool.{Bool, true}
 use mathlib.Core.Option.{Option, none, some}
 use mathlib.Core.List.{List}
@@ -22,13 +22,11 @@ use Rattle.search.specs.TrailWords.{latestDecision, firstUnset}
 use Rattle.search.specs.PositionLaws.{word-small}
 use Rattle.search.specs.TrailLaws.{words-small}
 use Rattle.search.specs.Walk.{codeUnder, trueUnder, headSlots, ruleVariables, fillingOf, firesUnder, firesAt, firstFrom, fillingCount, walkFrom, RulesFit, IndexFits}
-use Rattle.search.specs.PlaceLaws.{getElem-in}
 use Rattle.search.specs.RuleLaws.{rules-fit}
-use Rattle.search.specs.WalkStands.{WalkAs}
 use Rattle.search.specs.Logging.{LogFits}
 use Rattle.search.specs.LogLaws.{found-below, fewer-fit}
 use Rattle.search.specs.Machine.{Machine, logIn, Stands, Running}
-use Rattle.search.specs.StandsLaws.{room-for, act-as, unit-unset, back-none, back-some, walk-as, goal-unset, goal-none, goal-some}
+use Rattle.search.specs.StandsLaws.{room-for, act-as, unit-unset, back-none, back-some, goal-unset, goal-none, goal-some}
 use Rattle.search.specs.declared.Run.{Run}
 use Rattle.search.specs.declared.Act.the-variants.{Force, Nothing}
 use Rattle.search.specs.declared.Found.the-variants.{Instance}

@@ -1,12 +1,11 @@
 -- Step A over clauses as words. Assumes nothing.
 use Prim.Native.Nat.{ℕ, zero, suc, _+_, _-_, _*_, _≤_, _<_}
 use mathlib.Core.Bool.{Bool, true, false, _&&_, _||_, not}
-use mathlib.Core.List.{List, [], _∷_}
+use mathlib.Core.List.{List}
 use lib.Dec.{eqb, ltb}
 use lib.ListN.{getD, take, drop}
 use Rattle.definitions.specs.Lists.{all}
 use Rattle.search.specs.Values.{valueOf, look}
-use Rattle.search.specs.declared.Seen.{Seen}
 use Rattle.search.specs.declared.Seen.the-variants.{AllFalse, One, Open}
 use Rattle.search.specs.declared.Act.{Act}
 use Rattle.search.specs.declared.Act.the-variants.{Conflict, Force, Nothing}

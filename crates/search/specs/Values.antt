@@ -1,9 +1,9 @@
 -- Values of atoms by table position, and what a clause's words say under them. Assumes nothing.
-use Prim.Native.Nat.{ℕ, zero, suc, _+_, _/_, _%_}
-use mathlib.Core.Bool.{Bool, true, false}
+use Prim.Native.Nat.{ℕ, _/_, _%_}
+use mathlib.Core.Bool.{true, false}
 use mathlib.Core.List.{List, [], _∷_}
 use lib.Dec.{eqb}
-use lib.ListN.{getD, set}
+use lib.ListN.{getD}
 use Rattle.search.specs.declared.Seen.{Seen}
 use Rattle.search.specs.declared.Seen.the-variants.{AllFalse, One, Open}
 

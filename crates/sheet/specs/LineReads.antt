@@ -1,13 +1,13 @@
 -- What the readers of a line of each kind say, by what the questions come to. Assumes nothing.
 use Prim.Native.Nat.{ℕ, zero, suc, _+_, _*_, _≤_}
 use mathlib.Core.Path.{_≡_}
-use mathlib.Core.Bool.{Bool, true, false}
-use mathlib.Core.List.{List, [], _∷_, _++_, map}
+use mathlib.Core.Bool.{true, false}
+use mathlib.Core.List.{List, map}
 use lib.Dec.{eqb, leb, ltb}
-use lib.ListN.{length, getD, set, take, drop}
+use lib.ListN.{length, getD, set, take}
 use lib.Seq.{sets}
 use Rattle.definitions.specs.Lists.{isEmpty}
-use Rattle.definitions.specs.Words.{Clause, Rule, Problem}
+use Rattle.definitions.specs.Words.{Clause, Rule}
 use Rattle.definitions.specs.Sheet.{Line, Number}
 use Rattle.definitions.specs.Questions.{Asked, no, yes, _>>=_, _>>_, ask, count, ruleArgument, clauseArgument, literals, patternOf, literalOf, restricted, columns, goodLength, Reading, refused, accepted}
 use Rattle.sheet.specs.Slots.{asPattern, slotWords, ruleWords}

@@ -1,29 +1,27 @@
 -- One line more: what the reader of a line leaves in the arrays is what the questions read, and so for the whole sheet.
 -- Assumes nothing.
-use Prim.Native.Nat.{ℕ, zero, suc, _+_, _*_, _≤_}
+use Prim.Native.Nat.{ℕ, suc, _+_, _≤_}
 use mathlib.Core.Path.{_≡_, refl, sym, ap, subst, _∙_}
 use mathlib.Core.Logic.{_⊎_, inl, inr}
 use mathlib.Core.Bool.{Bool, true, false}
 use mathlib.Core.List.{List, [], _∷_, _++_, map, append-nil, List·Memᴰ·not-nil}
 use native.Mathlib.Omega.{arith}
 use lib.Dec.{eqb, leb, ltb}
-use lib.ListN.{length, getD, set, take, length-append}
-use lib.Seq.{sets}
-use borrow.Author.Tests.{eqb-true}
+use lib.ListN.{length, set, take, length-append}
 use Rattle.definitions.specs.Lists.{_∈_, isEmpty, joined, distinct}
 use Rattle.definitions.specs.Words.{Literal, Clause, Rule, Problem, goalAtoms}
 use Rattle.definitions.specs.Sheet.{Line, Number}
-use Rattle.definitions.specs.Questions.{Asked, no, yes, _>>=_, _>>_, ask, columns, Walk, count, kindOf, literals, clauseArgument, ruleArgument, literalOf, patternOf, patterns, clauseLiterals, restricted, withConstants, withSymbol, withRule, withClause, constantsLine, symbolLine, ruleLine, clauseLine, lineOfKind, goodLength, Draft, readLine, emptyDraft}
-use Rattle.theory.specs.Tests.{by-test, apart}
+use Rattle.definitions.specs.Questions.{Asked, no, yes, _>>=_, _>>_, ask, columns, count, kindOf, literals, clauseArgument, ruleArgument, literalOf, patternOf, patterns, clauseLiterals, restricted, withConstants, withSymbol, withRule, withClause, constantsLine, symbolLine, ruleLine, clauseLine, lineOfKind, goodLength, Draft, readLine, emptyDraft}
+use Rattle.theory.specs.Tests.{by-test}
 use Rattle.theory.specs.ListLaws.{joined-append, joined-length}
 use Rattle.theory.specs.AskedLaws.{by-asked, bind-yes, ask-yes}
 use Rattle.theory.specs.Limits.{LiteralLimits, Limits, arity-limit, clause-literals-limits, Begun}
 use Rattle.column.specs.Sets.{front}
 use Rattle.sheet.specs.Rows.{kindHere, kindAsked}
 use Rattle.sheet.specs.RowLaws.{kind-here}
-use Rattle.sheet.specs.Slots.{asPattern, slotWords, ruleWords}
-use Rattle.sheet.specs.Entering.{Entered, entered, enterSlots}
-use Rattle.sheet.specs.Encoding.{Arrays, arrays, emptyIndex, sizesOf, hold, startsFrom}
+use Rattle.sheet.specs.Slots.{asPattern, slotWords}
+use Rattle.sheet.specs.Entering.{Entered}
+use Rattle.sheet.specs.Encoding.{Arrays, emptyIndex, sizesOf, hold}
 use Rattle.sheet.specs.EncodingLaws.{enteredOf, Encodable, limits-encodable, hold-index-within, clause-held, hold-symbol, hold-rule, hold-clause}
 use Rattle.sheet.specs.LineReads.{constantsAsked, arityAsked, ruleAsked, clauseAsked, moreConstants, moreSymbols, moreRules, moreClauses, clauseEntered, clauseAnswer, Ready, withArities, withRules, withEntered, ConstantsHeld, SymbolHeld, RuleHeld, ClauseEntersHeld, LineHeld, columnsAsked}
 use Rattle.sheet.specs.declared.Sizes.{Sizes}

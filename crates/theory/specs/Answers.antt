@@ -1,14 +1,14 @@
 -- Every step keeps the invariant of the trail and the log, so UNSAT and UNKNOWN mean what document 01 says. Assumes nothing.
 use Prim.Native.Nat.{ℕ}
-use mathlib.Core.Path.{_≡_, refl, subst}
-use mathlib.Core.Option.{none, some}
+use mathlib.Core.Path.{_≡_, subst}
+use mathlib.Core.Option.{some}
 use Rattle.definitions.specs.Instances.{Task}
 use Rattle.definitions.specs.Meaning.{Choice, Fails}
-use Rattle.definitions.specs.Search.{Trail, State, start, conflict, force, nextAct, loggedOf, backtrack, setUnit, logInstance, decide, afterConflict, Outcome, enough, searchTask, done}
+use Rattle.definitions.specs.Search.{State, start, conflict, force, nextAct, loggedOf, backtrack, setUnit, logInstance, decide, afterConflict, Outcome, enough, searchTask, done}
 use Rattle.definitions.specs.declared.Verdict.{Verdict}
 use Rattle.definitions.specs.declared.Verdict.the-variants.{Unsat, Unknown, Spent, Full}
 use Rattle.theory.specs.Steps.{Step, unit, undone, refuted, logs, overflows, decides, overspends, rests, After, run-keeps}
-use Rattle.theory.specs.Trail.{Ok, BacktrackOk, backtrack-ok, unit-next, decision-next}
+use Rattle.theory.specs.Trail.{BacktrackOk, backtrack-ok, unit-next, decision-next}
 use Rattle.theory.specs.Choices.{choiceWorld, Inv, start-inv, inv-knows, inv-act, log-ok, log-more}
 use Rattle.theory.specs.Unknown.{FirstChoice, first-choice}
 

@@ -2,17 +2,17 @@
 -- a clash. What the trail's invariant asks of candidates holds of them. Assumes nothing.
 use mathlib.Core.Path.{_≡_, refl, sym, subst}
 use mathlib.Core.Logic.{_⊎_, inl, inr}
-use mathlib.Core.Option.{Option, none, some}
-use mathlib.Core.List.{List, [], _∷_, List·Memᴰ·not-nil, List·Memᴰ·append-cases, List·Memᴰ·eq-of-singleton}
+use mathlib.Core.Option.{some}
+use mathlib.Core.List.{List, List·Memᴰ·not-nil, List·Memᴰ·append-cases, List·Memᴰ·eq-of-singleton}
 use Rattle.definitions.specs.Lists.{_∈_}
 use Rattle.definitions.specs.Words.{Literal, negate, Clause, goalAtoms}
 use Rattle.definitions.specs.Instances.{Instance, Task}
-use Rattle.definitions.specs.Meaning.{Choice, Makes, Closure, chosen, derived, Clash, bothSigns, falseBody, Breaks, Fails}
+use Rattle.definitions.specs.Meaning.{Choice, Makes, Closure, chosen, derived, bothSigns, falseBody, Fails}
 use Rattle.definitions.specs.Search.{Logged, clauseOf, State, start, Act, nextAct, loggedOf, nextInstance, logInstance}
 use Rattle.theory.specs.Tests.{by-option}
 use Rattle.theory.specs.ListLaws.{all-or-else}
 use Rattle.theory.specs.WordLaws.{negate-negate, negate-atom, makes-one, goal-of}
-use Rattle.theory.specs.SearchLaws.{clause-head, clause-taken, Fired, fired}
+use Rattle.theory.specs.SearchLaws.{clause-head, clause-taken, fired}
 use Rattle.theory.specs.Trail.{World, LogOk, Refutes, Ok, bare, Knows, ActOk, act-ok}
 
 module _ (k : Task) where

@@ -2,21 +2,19 @@
 -- Assumes nothing.
 use Prim.Native.Nat.{ℕ}
 use mathlib.Core.Path.{_≡_, refl, sym, ap, _∙_}
-use mathlib.Core.Bool.{true, false}
 use mathlib.Core.List.{List}
 use lib.Dec.{leb}
 use lib.ListN.{length, take, drop}
 use Rattle.definitions.specs.Words.{Problem}
 use Rattle.definitions.specs.Meaning.{Assignment, Satisfies}
-use Rattle.definitions.specs.Sheet.{Number, number, fault, plus, decimal}
+use Rattle.definitions.specs.Sheet.{number, plus, decimal}
 use Rattle.definitions.specs.Questions.{Reading, refused, accepted, read}
 use Rattle.definitions.specs.Search.{State, Outcome, more, done, search}
-use Rattle.definitions.specs.Listing.{answerNumber, listing}
+use Rattle.definitions.specs.Listing.{answerNumber}
 use Rattle.definitions.specs.Call.{Result, refusal, ended, unended, searched, answered, result, answerOf, listingOf, call, listedPart}
 use Rattle.definitions.specs.Sheets.{Accepted, Answers, handsBack, lists, Keeps}
 use Rattle.definitions.specs.declared.Verdict.{Verdict}
 use Rattle.definitions.specs.declared.Verdict.the-variants.{Unsat, Unknown}
-use Rattle.definitions.specs.declared.Counts.{Counts}
 use Rattle.definitions.specs.declared.Answer.the-variants.{Answered}
 use Rattle.theory.specs.Tests.{by-test, apart}
 use Rattle.theory.specs.ListingLaws.{listed-answer}

@@ -1,17 +1,16 @@
 -- Demand 3 on problems: more clauses, rules and constants only add clauses and instances, so what makes every choice fail in
 -- the smaller problem makes every choice fail in the larger, and no assignment satisfies the larger. Assumes nothing.
-use Prim.Native.Nat.{ℕ, zero, suc, _≤_}
-use mathlib.Core.Path.{_≡_, refl, sym, ap, subst, _∙_}
-use mathlib.Core.Logic.{_⊎_, inl, inr}
-use mathlib.Core.Bool.{Bool, true, false}
+use Prim.Native.Nat.{ℕ, _≤_}
+use mathlib.Core.Path.{_≡_, refl, sym, subst, _∙_}
+use mathlib.Core.Logic.{inl, inr}
 use mathlib.Core.List.{List, [], _∷_, _++_, map, cons≢nil, Memᴰ·map, Memᴰ·of-map}
 use Rattle.definitions.specs.Lists.{_∈_}
-use Rattle.definitions.specs.Words.{Atom, Literal, negate, Clause, Pattern, Rule, Problem, goalAtoms}
-use Rattle.definitions.specs.Instances.{Substitution, ground, variables, substitutions, Instance, instancesFrom, Task, taskOf}
-use Rattle.definitions.specs.Meaning.{Assignment, Choice, Makes, Closure, chosen, derived, Clash, bothSigns, falseBody, Breaks, Fails, SatisfiesClause, SatisfiesFilling, headFalse, bodyTrue, Satisfies}
+use Rattle.definitions.specs.Words.{Atom, Literal, Clause, Rule, Problem, goalAtoms}
+use Rattle.definitions.specs.Instances.{ground, variables, Instance, Task, taskOf}
+use Rattle.definitions.specs.Meaning.{Assignment, Choice, Makes, Closure, chosen, derived, bothSigns, falseBody, Fails, SatisfiesClause, SatisfiesFilling, headFalse, bodyTrue, Satisfies}
 use Rattle.definitions.specs.Search.{State, done, searchTask, search}
 use Rattle.definitions.specs.declared.Verdict.the-variants.{Unsat, Unknown}
-use Rattle.theory.specs.WordLaws.{makes-not-both, goal-of, GoalFrom, goal-from}
+use Rattle.theory.specs.WordLaws.{makes-not-both, goal-of, goal-from}
 use Rattle.theory.specs.InstanceLaws.{substitutions-more, Found, Filled, instance-filled, filled-instance}
 use Rattle.theory.specs.Unknown.{setting}
 use Rattle.theory.specs.Answers.{unsat-means, unknown-means}

@@ -3,13 +3,13 @@ use mathlib.Core.Path.{_≡_, refl, sym, _∙_, ap}
 use mathlib.Core.Logic.{_⊎_, inl, inr}
 use mathlib.Core.Bool.{Bool, true, false, not, _&&_, _||_}
 use mathlib.Core.Option.{Option, none, some}
-use mathlib.Core.List.{List, [], _∷_, _++_, map, List·Memᴰ·head, List·Memᴰ·tail, List·Memᴰ·cases-cons, List·Memᴰ·append-cases, List·Memᴰ·eq-of-singleton, List·Memᴰ·not-nil, Memᴰ·append-left, Memᴰ·append-right, Memᴰ·cast, Memᴰ·map, Memᴰ·of-map}
-use Rattle.definitions.specs.Lists.{_∈_, isEmpty, any, all, keep, firstOf, distinct, listOf, firstSome}
+use mathlib.Core.List.{List, [], _∷_, map, List·Memᴰ·head, List·Memᴰ·tail, List·Memᴰ·cases-cons, List·Memᴰ·append-cases, List·Memᴰ·eq-of-singleton, List·Memᴰ·not-nil, Memᴰ·append-left, Memᴰ·append-right, Memᴰ·cast, Memᴰ·map, Memᴰ·of-map}
+use Rattle.definitions.specs.Lists.{_∈_, isEmpty, any, all, keep, distinct, listOf, firstSome}
 use Rattle.definitions.specs.Words.{Atom, Literal, negate, plain, sameAtom, sameLiteral, Clause, goalAtoms}
 use Rattle.definitions.specs.Instances.{Instance, Task}
 use Rattle.definitions.specs.Search.{Entry, Trail, isTrue, isFalse, isUnset, Logged, clauseOf, State, Act, conflict, force, notFalse, actOn, isGoal, goalAct, loggedAct, nextAct, fires, nextInstance, loggedOf, enter, enterTaken, nextGoal}
-use Rattle.theory.specs.Tests.{by-test, by-option, apart, true-and-false, not-true, not-false, and-left, and-right, or-cases}
-use Rattle.theory.specs.ListLaws.{First, firstOf-first, firstOf-in, firstOf-passes, firstOf-none, any-some, any-of, any-none, all-each, all-of, keep-of, keep-in, keep-none, firstSome-in, firstSome-none, distinct-in, distinct-of}
+use Rattle.theory.specs.Tests.{by-test, by-option, apart, true-and-false, not-true, and-left, and-right, or-cases}
+use Rattle.theory.specs.ListLaws.{First, firstOf-first, firstOf-in, firstOf-passes, firstOf-none, any-some, any-of, all-each, all-of, keep-of, keep-in, keep-none, firstSome-in, firstSome-none, distinct-in, distinct-of}
 use Rattle.theory.specs.WordLaws.{sameAtom-eq, sameAtom-refl, sameLiteral-eq, sameLiteral-refl, eq-sameLiteral, negate-negate, same-or-negated}
 
 -- ── literals on the trail ──

@@ -3,27 +3,26 @@
 use Prim.Native.Nat.{ℕ, suc, _+_, _-_, _^_, _≤_, _<_}
 use mathlib.Core.Path.{_≡_, refl, sym, ap, subst, _∙_}
 use mathlib.Core.Logic.{inl, inr}
-use mathlib.Core.Bool.{true}
-use mathlib.Core.List.{List, [], _∷_, map, List·Memᴰ·head, List·Memᴰ·tail, List·Memᴰ·not-nil, List·Memᴰ·append-cases, Memᴰ·of-map}
+use mathlib.Core.List.{List, [], _∷_, List·Memᴰ·head, List·Memᴰ·tail, List·Memᴰ·not-nil, List·Memᴰ·append-cases, Memᴰ·of-map}
 use native.Mathlib.Omega.{arith}
 use lib.Dec.{eqb}
 use lib.ListN.{length, length-map}
 use Rattle.definitions.specs.Lists.{_∈_}
-use Rattle.definitions.specs.Words.{Atom, Literal, negate, plain, Term, variable, constant, Pattern, Rule, Problem, goalAtoms}
-use Rattle.definitions.specs.Instances.{Substitution, Binding, valueOf, termValue, ground, variables, substitutions, Instance, fill, isProper, ruleInstances, instancesFrom, Task, taskOf}
-use Rattle.definitions.specs.Search.{isTrue, isFalse, Logged, clauseOf, State, done, search, searchTask}
+use Rattle.definitions.specs.Words.{Atom, Literal, plain, Term, variable, constant, Pattern, Rule, Problem, goalAtoms}
+use Rattle.definitions.specs.Instances.{Substitution, Binding, valueOf, termValue, ground, variables, substitutions, Instance, fill, isProper, ruleInstances, instancesFrom, taskOf}
+use Rattle.definitions.specs.Search.{isFalse, State, done, search}
 use Rattle.definitions.specs.declared.Verdict.{Verdict}
 use Rattle.theory.specs.Tests.{by-test}
 use Rattle.theory.specs.ListLaws.{keep-in}
 use Rattle.theory.specs.WordLaws.{negate-atom, goal-from}
 use Rattle.theory.specs.SearchLaws.{clause-cases}
-use Rattle.theory.specs.InstanceLaws.{substitution-sound, Filled, instance-filled}
+use Rattle.theory.specs.InstanceLaws.{substitution-sound, instance-filled}
 use Rattle.theory.specs.Counts.{decisions-within-budget, conflicts-at-most-decisions-plus-1, limits-kept}
-use Rattle.theory.specs.Sources.{InBody, search-sourced}
+use Rattle.theory.specs.Sources.{search-sourced}
 use Rattle.theory.specs.Unknown.{consistent}
 use Rattle.theory.specs.Answers.{search-inv}
 use Rattle.theory.specs.Limits.{TermLimits, PatternLimits, LiteralLimits, Limits, arity-limit}
-use Rattle.theory.specs.ListingLaws.{AtomListable, LoggedListable, Listable}
+use Rattle.theory.specs.ListingLaws.{AtomListable, Listable}
 
 -- a filled variable has a constant of the sheet, one that stands nowhere has 0
 value-limit : (f : Substitution) (n v : ℕ) → ((b : Binding) → b ∈ f → b .constant ≤ n) → valueOf f v ≤ n

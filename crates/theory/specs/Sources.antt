@@ -1,12 +1,11 @@
 -- Where the atoms of the table come from: a goal clause, or the body of an instance. Assumes nothing.
 use Prim.Native.Nat.{ℕ}
-use mathlib.Core.Path.{_≡_, sym, subst, _∙_}
+use mathlib.Core.Path.{_≡_, subst}
 use mathlib.Core.Logic.{_⊎_, inl, inr}
-use mathlib.Core.List.{List, [], _∷_}
 use Rattle.definitions.specs.Lists.{_∈_}
 use Rattle.definitions.specs.Words.{Atom, Literal, goalAtoms}
 use Rattle.definitions.specs.Instances.{Instance, Task}
-use Rattle.definitions.specs.Search.{State, start, nextInstance, loggedOf, setUnit, logInstance, decide, afterConflict, Outcome, done, enough, searchTask}
+use Rattle.definitions.specs.Search.{State, start, loggedOf, setUnit, logInstance, decide, afterConflict, Outcome, done, enough, searchTask}
 use Rattle.definitions.specs.declared.Verdict.{Verdict}
 use Rattle.theory.specs.SearchLaws.{fired, enterTaken-in}
 use Rattle.theory.specs.Steps.{Step, unit, undone, refuted, logs, overflows, decides, overspends, rests, After, run-keeps}

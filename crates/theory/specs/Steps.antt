@@ -7,7 +7,7 @@ use native.Mathlib.Omega.{arith}
 use lib.Dec.{ltb}
 use Rattle.definitions.specs.Words.{Atom, Literal}
 use Rattle.definitions.specs.Instances.{Instance, Task}
-use Rattle.definitions.specs.Search.{Trail, Logged, State, Act, conflict, force, nextAct, nextInstance, loggedOf, nextGoal, backtrack, setUnit, logInstance, decide, afterConflict, Outcome, more, done, onConflict, onAct, hasRoom, onLogged, onGoal, step, run}
+use Rattle.definitions.specs.Search.{Trail, State, Act, conflict, force, nextAct, nextInstance, loggedOf, nextGoal, backtrack, setUnit, logInstance, decide, afterConflict, Outcome, more, done, onConflict, onAct, hasRoom, onLogged, onGoal, step, run}
 use Rattle.definitions.specs.declared.Verdict.{Verdict}
 use Rattle.definitions.specs.declared.Verdict.the-variants.{Unsat, Unknown, Spent, Full}
 

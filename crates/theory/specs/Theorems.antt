@@ -11,9 +11,9 @@ use Rattle.definitions.specs.Words.{Problem, goalAtoms}
 use Rattle.definitions.specs.Instances.{taskOf}
 use Rattle.definitions.specs.Meaning.{Choice, Fails}
 use Rattle.definitions.specs.Questions.{Reading, refused, accepted, read}
-use Rattle.definitions.specs.Search.{State, Outcome, more, done, search}
+use Rattle.definitions.specs.Search.{State, Outcome, done, search}
 use Rattle.definitions.specs.Listing.{Field, listingLines, listing}
-use Rattle.definitions.specs.Call.{Result, refusal, ended, unended, searched, answered, result}
+use Rattle.definitions.specs.Call.{unended, searched, answered, result}
 use Rattle.definitions.specs.declared.Verdict.{Verdict}
 use Rattle.definitions.specs.declared.Verdict.the-variants.{Unsat, Unknown, Spent, Full}
 use Rattle.theory.specs.Tests.{by-test, apart}

@@ -1,14 +1,14 @@
 -- What UNKNOWN tells: the setting of the goal atoms is the first choice that fails in neither way, and what is true is its
 -- closure. Assumes nothing.
-use mathlib.Core.Path.{_≡_, refl, sym, ap, subst, _∙_}
+use mathlib.Core.Path.{_≡_, sym, ap, subst, _∙_}
 use mathlib.Core.Logic.{_⊎_, inl, inr}
-use mathlib.Core.Bool.{Bool, true, false, false≢true}
-use mathlib.Core.Option.{Option, none, some}
-use mathlib.Core.List.{List, [], _∷_, _++_, List·Memᴰ·tail, List·Memᴰ·cases-cons, List·Memᴰ·not-nil}
+use mathlib.Core.Bool.{true, false, false≢true}
+use mathlib.Core.Option.{none}
+use mathlib.Core.List.{_∷_, List·Memᴰ·tail, List·Memᴰ·cases-cons, List·Memᴰ·not-nil}
 use Rattle.definitions.specs.Lists.{_∈_, any}
-use Rattle.definitions.specs.Words.{Atom, Literal, negate, plain, Clause, goalAtoms}
-use Rattle.definitions.specs.Instances.{Instance, Task}
-use Rattle.definitions.specs.Meaning.{Choice, Makes, Closure, chosen, derived, Clash, bothSigns, falseBody, Breaks, Fails, Earlier}
+use Rattle.definitions.specs.Words.{Atom, Literal, negate, plain, goalAtoms}
+use Rattle.definitions.specs.Instances.{Task}
+use Rattle.definitions.specs.Meaning.{Choice, Makes, Closure, chosen, derived, bothSigns, falseBody, Breaks, Fails, Earlier}
 use Rattle.definitions.specs.Search.{decided, Entry, Trail, isTrue, isFalse, isUnset, State, isGoal, nextAct, nextInstance, nextGoal}
 use Rattle.theory.specs.Tests.{by-test, true-and-false, none≢some}
 use Rattle.theory.specs.ListLaws.{at-split, in-along, splits}

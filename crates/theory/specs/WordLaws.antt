@@ -1,12 +1,12 @@
 -- The tests for sameness answer true just at equal terms; a literal and its negation; goal atoms. Assumes nothing.
 use Prim.Native.Nat.{ℕ}
-use mathlib.Core.Path.{_≡_, refl, sym, _∙_, ap, subst}
+use mathlib.Core.Path.{_≡_, refl, sym, _∙_, ap}
 use mathlib.Core.Logic.{_⊎_, inl, inr}
-use mathlib.Core.Bool.{Bool, true, false, not, _&&_, Bool·beq, Bool·not-not, true≢false, false≢true}
-use mathlib.Core.List.{List, [], _∷_, map, Memᴰ·cast, Memᴰ·map, Memᴰ·of-map}
+use mathlib.Core.Bool.{Bool, true, false, not, Bool·beq, Bool·not-not, true≢false, false≢true}
+use mathlib.Core.List.{List, [], _∷_, Memᴰ·map, Memᴰ·of-map}
 use lib.Dec.{eqb}
 use borrow.Author.Tests.{eqb-true, eq-eqb}
-use Rattle.definitions.specs.Lists.{_∈_, joined, distinct}
+use Rattle.definitions.specs.Lists.{_∈_, joined}
 use Rattle.definitions.specs.Words.{Atom, Literal, negate, plain, sameArgs, sameAtom, sameLiteral, Clause, goalAtoms}
 use Rattle.definitions.specs.Meaning.{Assignment, Makes}
 use Rattle.theory.specs.Tests.{by-test, apart}
