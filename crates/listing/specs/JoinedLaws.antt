@@ -1,0 +1,45 @@
+-- Lists place by place: what an array has where a list stands at its front, and what is made for each place of a list and joined.
+-- Assumes nothing.
+use Prim.Native.Nat.{ℕ, zero, suc, _+_}
+use mathlib.Core.Path.{_≡_, refl, sym, _∙_, ap}
+use mathlib.Core.Option.{some}
+use mathlib.Core.List.{List, [], _∷_, map, head-eq-of-cons-eq, tail-eq-of-cons-eq}
+use native.Mathlib.Omega.{arith}
+use lib.ListN.{length, getD, take, getElem?}
+use Rattle.definitions.specs.Lists.{joined, upFrom}
+use Rattle.theory.specs.Tests.{apart, none≢some, some-injective}
+use Rattle.theory.specs.ListLaws.{joined-append}
+
+-- a list stands at the front of an array, and each element has its word there
+pub front-at : {A B : Type 0} (f : A → B) (xs : List A) (array : List B) → take (length xs) array ≡ map f xs
+    → (i : ℕ) (x : A) (d : B) → getElem? xs i ≡ some x → getD array i d ≡ f x
+front-at f [] array h i x d e = none≢some e
+front-at f (y ∷ xs) [] h i x d e = apart (cc)
+front-at f (y ∷ xs) (w ∷ array) h zero x d e = head-eq-of-cons-eq h ∙ ap f (some-injective e)
+front-at f (y ∷ xs) (w ∷ array) h (suc i) x d e = front-at f xs array (tail-eq-of-cons-eq h) i x d e
+
+-- what is made from each place of a list is what is made from the element there
+pub map-places : {A B : Type 0} (f : ℕ → B) (g : A → B) (a : ℕ) (xs : List A) → ((i : ℕ) (x : A) → getElem? xs i ≡ some x → f (a + i) ≡ g x)
+    → map f (upFrom a (length xs)) ≡ map g xs
+unfolding upFrom
+map-places f g a [] h = refl
+map-places f g a (x ∷ xs) h =
+    let here : a + 0 ≡ a = omega arith in
+    cc (h 0 x refl, map-places f g (suc a) xs (λ i y e. let next : suc a + i ≡ a + suc i = omega arith in ap f next ∙ h (suc i) y e))
+
+pub joined-map : {A B C : Type 0} (f : B → List C) (g : A → B) (xs : List A) → joined f (map g xs) ≡ joined (λ x. f (g x)) xs
+unfolding joined
+joined-map f g [] = refl
+joined-map f g (x ∷ xs) = cc (joined-map f g xs)
+
+pub joined-joined : {A B C : Type 0} (f : B → List C) (g : A → List B) (xs : List A) → joined f (joined g xs) ≡ joined (λ x. joined f (g x)) xs
+unfolding joined
+joined-joined f g [] = refl
+joined-joined f g (x ∷ xs) = cc (joined-append f (g x) (joined g xs), joined-joined f g xs)
+
+pub joined-places : {A B : Type 0} (f : ℕ → List B) (g : A → List B) (xs : List A) → ((i : ℕ) (x : A) → getElem? xs i ≡ some x → f i ≡ g x)
+    → joined f (upFrom 0 (length xs)) ≡ joined g xs
+joined-places f g xs h =
+    sym (joined-map (λ l. l) f (upFrom 0 (length xs)))
+    ∙ ap (joined (λ l. l)) (map-places f g 0 xs (λ i x e. let z : 0 + i ≡ i = omega arith in ap f z ∙ h i x e))
+    ∙ joined-map (λ l. l) g xs
