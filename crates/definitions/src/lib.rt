@@ -1,6 +1,6 @@
 // The answer of a call, as document 01 names it: an answer that carries its own record.
-// What the parts mean stands in specs/: `Call` says which answer a call hands back, and
-// `Answers` gives the paper's number and values for each case.
+// What the parts mean stands in specs/: `Call` says which answer a call hands back, and gives
+// document 01's number and values for each case.
 
 // Which question was answered no, and at which line: 0 where it is asked of the call.
 pub struct Refusal {
