@@ -1,10 +1,10 @@
--- `solver::searched` meets its contract: the arrays are searched, and the listing is put into the room. Assumes nothing.
+-- `solver::answering::searched` meets its contract: the arrays are searched, and the listing is put into the room. Assumes nothing.
 use mathlib.Core.Path.{refl}
 use native.Mathlib.Omega.{arith}
 use borrow.Author.Needs.{needs}
 use Rattle.solver.specs.SolvingLaws.{held-loaded, at-end, listing-fits, counts-fit, search-solved}
-use Rattle.solver.proofs.searched.Statement.{statement}
-use Rattle.solver.proofs.searched.Tie as tie
+use Rattle.solver.proofs.answering.searched.Statement.{statement}
+use Rattle.solver.proofs.answering.searched.Tie as tie
 
 search-requires : tie.Need-search-requires
 search-requires c κs =

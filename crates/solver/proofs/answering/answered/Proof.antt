@@ -1,11 +1,11 @@
--- `solver::answered` meets its contract: the refusal of the reader, or the search of what was read. Assumes nothing.
+-- `solver::answering::answered` meets its contract: the refusal of the reader, or the search of what was read. Assumes nothing.
 use mathlib.Core.Path.{refl}
 use borrow.Author.Needs.{needs}
 use Rattle.sheet.specs.Encoding.{emptyIndex}
 use Rattle.solver.specs.Solving.{emptyArrays}
 use Rattle.solver.specs.SolvingLaws.{accepted-held, refused-read, refusal-solved, accepted-solved}
-use Rattle.solver.proofs.answered.Statement.{statement}
-use Rattle.solver.proofs.answered.Tie as tie
+use Rattle.solver.proofs.answering.answered.Statement.{statement}
+use Rattle.solver.proofs.answering.answered.Tie as tie
 
 read-sheet-requires : tie.Need-read-sheet-requires
 unfolding emptyIndex
