@@ -1,0 +1,562 @@
+//! Random sheets of many shapes, small enough that their meaning can be enumerated, with budgets and
+//! rooms. One sheet in four or so is damaged afterwards.
+
+use crate::damage;
+use crate::random::Random;
+use crate::reader::{ROOM, SHEET};
+use crate::rows::{clause, negated, rule, text, Row};
+
+/// The arguments of a call.
+#[derive(Clone)]
+pub struct Case {
+    pub sheet: Vec<u8>,
+    pub budget: u32,
+    pub room: usize,
+}
+
+pub fn case(random: &mut Random) -> Case {
+    let (mut sheet, limits) = sheet(random);
+    if !limits && random.percent(24) {
+        for _ in 0..*random.pick(&[1, 1, 1, 2, 3]) {
+            sheet = damage::damaged(random, &sheet);
+        }
+    }
+    Case {
+        sheet,
+        budget: budget(random),
+        room: room(random),
+    }
+}
+
+/// A sheet, and whether it is one at the limits, where a damage would hide what it is for.
+fn sheet(random: &mut Random) -> (Vec<u8>, bool) {
+    match random.below(2000) {
+        0..=1 => (text(&log_limit(random)), true),
+        2..=15 => (text(&table_limit(random)), true),
+        16..=105 => (text(&sheet_limits(random)), true),
+        106..=139 => (raw(random), true),
+        140..=199 => (text(&wide(random)), false),
+        200..=399 => (text(&tight(random)), false),
+        400..=599 => (text(&order(random)), false),
+        600..=999 => (text(&derived(random)), false),
+        _ => (text(&general(random)), false),
+    }
+}
+
+fn budget(random: &mut Random) -> u32 {
+    match random.below(10) {
+        0 => u32::MAX,
+        1 => random.below(300) as u32,
+        2..=4 => random.below(7) as u32,
+        _ => 1_000_000,
+    }
+}
+
+fn room(random: &mut Random) -> usize {
+    match random.below(400) {
+        0 => ROOM - 1,
+        1 => random.below(ROOM),
+        2..=40 => ROOM + random.below(200),
+        _ => ROOM,
+    }
+}
+
+/// How the rules and clauses of one sheet are drawn; shares in percent.
+pub struct Style {
+    pub constants: usize,
+    pub arities: Vec<usize>,
+    /// The symbols that heads and bodies are drawn from.
+    pub heads: Vec<usize>,
+    pub bodies: Vec<usize>,
+    pub negated_heads: usize,
+    pub negated_bodies: usize,
+    pub false_bodies: usize,
+}
+
+impl Style {
+    fn rows(&self) -> Vec<Row> {
+        let mut rows = vec![vec![1, self.constants as i32]];
+        rows.extend(self.arities.iter().map(|&arity| vec![2, arity as i32]));
+        rows
+    }
+}
+
+/// A style in which every symbol may stand everywhere.
+pub fn any_style(random: &mut Random, constants: usize, arities: Vec<usize>) -> Style {
+    let symbols: Vec<usize> = (1..=arities.len()).collect();
+    Style {
+        constants,
+        heads: symbols.clone(),
+        bodies: symbols,
+        arities,
+        negated_heads: *random.pick(&[0, 10, 25, 50]),
+        negated_bodies: *random.pick(&[0, 20, 40, 60]),
+        false_bodies: *random.pick(&[0, 20, 50]),
+    }
+}
+
+fn signed(random: &mut Random, symbol: usize, negated_share: usize) -> i32 {
+    if random.percent(negated_share) {
+        -(symbol as i32)
+    } else {
+        symbol as i32
+    }
+}
+
+/// A literal of a rule over the given variables; with none of them, constants alone.
+fn pattern(
+    random: &mut Random,
+    style: &Style,
+    symbols: &[usize],
+    share: usize,
+    names: &[i32],
+) -> Row {
+    let symbol = *random.pick(symbols);
+    let mut row = vec![signed(random, symbol, share)];
+    for _ in 0..style.arities[symbol - 1] {
+        let constant = names.is_empty() || random.percent(12);
+        row.push(if constant {
+            -(random.between(1, style.constants) as i32)
+        } else {
+            *random.pick(names)
+        });
+    }
+    row
+}
+
+fn variables_of(literals: &[Row]) -> Vec<i32> {
+    literals
+        .iter()
+        .flat_map(|literal| literal[1..].iter().copied())
+        .filter(|&term| term > 0)
+        .collect()
+}
+
+/// A rule: few variables of any numbers, so that gaps and other orders come up.
+pub fn random_rule(random: &mut Random, style: &Style) -> Row {
+    let mut names: Vec<i32> = (1..=6).collect();
+    random.shuffle(&mut names);
+    let most = match style.constants {
+        1..=3 => 6,
+        4..=5 => 4,
+        6..=9 => 3,
+        _ => 2,
+    };
+    names.truncate(random.between(1, most));
+    let mut heads: Vec<Row> = Vec::new();
+    for _ in 0..*random.pick(&[1, 1, 1, 2, 2, 2, 2, 3, 3]) {
+        let head = match (random.below(100), heads.last()) {
+            (0..=2, Some(last)) => last.clone(),
+            (3..=5, Some(last)) => negated(last),
+            (6..=17, Some(last)) => {
+                let mut again = last.clone();
+                for term in &mut again[1..] {
+                    *term = *random.pick(&names);
+                }
+                again
+            }
+            _ => pattern(random, style, &style.heads, style.negated_heads, &names),
+        };
+        heads.push(head);
+    }
+    let bound = variables_of(&heads);
+    let mut body = Vec::new();
+    if !random.percent(style.false_bodies) {
+        for _ in 0..*random.pick(&[0, 1, 1, 1, 1, 2, 2]) {
+            let literal = match random.below(100) {
+                0..=9 => negated(random.pick(&heads)),
+                10..=12 => random.pick(&heads).clone(),
+                13 if random.one_in(1, 4) => {
+                    pattern(random, style, &style.bodies, 20, &[1, 2, 3, 4, 5, 6])
+                }
+                _ => pattern(random, style, &style.bodies, style.negated_bodies, &bound),
+            };
+            body.push(literal);
+        }
+    }
+    rule(&heads, &body)
+}
+
+pub fn random_atom(
+    random: &mut Random,
+    constants: usize,
+    arities: &[usize],
+    symbols: &[usize],
+) -> Row {
+    let symbol = *random.pick(symbols);
+    let mut row = vec![symbol as i32];
+    row.extend((0..arities[symbol - 1]).map(|_| random.between(1, constants) as i32));
+    row
+}
+
+/// A clause over some atoms, now and then with a literal twice, with both signs, or empty.
+pub fn random_clause(
+    random: &mut Random,
+    atoms: &[Row],
+    units: usize,
+    negated_share: usize,
+) -> Row {
+    let length = match random.below(100) {
+        0 if random.one_in(1, 2) => 0,
+        1..=6 => random.between(4, 8),
+        _ if random.percent(units) => 1,
+        _ => random.between(2, 3),
+    };
+    let mut literals: Vec<Row> = Vec::new();
+    for _ in 0..length {
+        let literal = match (random.below(100), literals.last()) {
+            (0..=7, Some(last)) => last.clone(),
+            (8..=12, Some(last)) => negated(last),
+            _ => {
+                let atom = random.pick(atoms);
+                if random.percent(negated_share) {
+                    negated(atom)
+                } else {
+                    atom.clone()
+                }
+            }
+        };
+        literals.push(literal);
+    }
+    clause(&literals)
+}
+
+fn random_arities(random: &mut Random, count: usize, constants: usize) -> Vec<usize> {
+    let choices: &[usize] = if constants > 3 {
+        &[0, 1, 1, 2]
+    } else {
+        &[0, 0, 0, 1, 1, 1, 1, 2, 2, 3]
+    };
+    (0..count).map(|_| *random.pick(choices)).collect()
+}
+
+/// Any symbols, any rules, any clauses, all few.
+fn general(random: &mut Random) -> Vec<Row> {
+    let constants = *random.pick(&[1, 1, 2, 2, 2, 2, 3, 3, 3, 4, 5]);
+    let count = random.between(1, 5);
+    let arities = random_arities(random, count, constants);
+    let style = any_style(random, constants, arities);
+    let mut rows = style.rows();
+    for _ in 0..random.below(7) {
+        rows.push(random_rule(random, &style));
+    }
+    let atoms: Vec<Row> = (0..random.between(1, 8))
+        .map(|_| random_atom(random, constants, &style.arities, &style.heads))
+        .collect();
+    let units = *random.pick(&[5, 30, 60]);
+    let negated_share = *random.pick(&[5, 25, 50]);
+    for _ in 0..random.below(11) {
+        rows.push(random_clause(random, &atoms, units, negated_share));
+    }
+    rows
+}
+
+/// More constants and goal atoms than the meaning can be enumerated for: longer logs and listings, constants
+/// of two digits.
+fn wide(random: &mut Random) -> Vec<Row> {
+    let constants = random.between(6, 14);
+    let arities: Vec<usize> = (0..random.between(2, 6))
+        .map(|_| random.between(1, 2))
+        .collect();
+    let mut style = any_style(random, constants, arities);
+    style.negated_heads = *random.pick(&[0, 5, 20]);
+    style.false_bodies = *random.pick(&[0, 15, 30]);
+    let mut rows = style.rows();
+    for _ in 0..random.between(2, 8) {
+        rows.push(random_rule(random, &style));
+    }
+    let atoms: Vec<Row> = (0..random.between(10, 40))
+        .map(|_| random_atom(random, constants, &style.arities, &style.heads))
+        .collect();
+    let units = *random.pick(&[10, 50, 80]);
+    for _ in 0..random.between(8, 40) {
+        rows.push(random_clause(random, &atoms, units, 15));
+    }
+    rows
+}
+
+/// Many clauses of two and three literals over few atoms: decisions and conflicts.
+fn tight(random: &mut Random) -> Vec<Row> {
+    let constants = random.between(1, 3);
+    let arities = vec![1, 1, 1, 0, 0];
+    let mut style = any_style(random, constants, arities);
+    style.false_bodies = 60;
+    let mut rows = style.rows();
+    for _ in 0..random.below(5) {
+        rows.push(random_rule(random, &style));
+    }
+    let count = random.between(4, 9);
+    let mut atoms: Vec<Row> = Vec::new();
+    while atoms.len() < count.min(3 * constants + 2) {
+        let atom = random_atom(random, constants, &style.arities, &style.heads);
+        if !atoms.contains(&atom) {
+            atoms.push(atom);
+        }
+    }
+    let negated_share = *random.pick(&[35, 50, 65]);
+    for _ in 0..random.between(2 * count, 4 * count) {
+        rows.push(random_clause(random, &atoms, 2, negated_share));
+    }
+    rows
+}
+
+/// An order with free pairs: the shape of document 01's printed sheet.
+fn order(random: &mut Random) -> Vec<Row> {
+    let constants = random.between(2, 5);
+    let mut rows = vec![vec![1, constants as i32], vec![2, 2]];
+    let (x, y, z) = *random.pick(&[(1, 2, 3), (3, 1, 2), (2, 5, 4), (6, 4, 1)]);
+    let lt = |a: i32, b: i32| vec![1, a, b];
+    let not = |a: i32, b: i32| vec![-1, a, b];
+    let rules = [
+        rule(&[lt(x, y), lt(y, z)], &[lt(x, z)]),
+        rule(&[lt(x, x)], &[]),
+        rule(&[lt(x, y), lt(y, x)], &[]),
+        rule(&[lt(x, y)], &[not(y, x)]),
+        rule(&[not(x, z), lt(x, y)], &[not(y, z)]),
+        rule(&[not(x, z), lt(y, z)], &[not(x, y)]),
+        rule(&[lt(x, y), lt(y, z)], &[lt(x, z), not(z, x)]),
+    ];
+    rows.push(rules[0].clone());
+    for extra in &rules[1..] {
+        if random.percent(45) {
+            rows.push(extra.clone());
+        }
+    }
+    random.shuffle(&mut rows[2..]);
+    for _ in 0..random.between(2, 8) {
+        let (a, b) = (
+            random.between(1, constants) as i32,
+            random.between(1, constants) as i32,
+        );
+        rows.push(match random.below(5) {
+            0 => clause(&[lt(a, b)]),
+            1 => clause(&[not(a, b)]),
+            2 => clause(&[lt(a, b), not(b, a)]),
+            _ => clause(&[lt(a, b), lt(b, a)]),
+        });
+    }
+    rows
+}
+
+/// Clauses over some symbols and rules that create atoms of others, with all signs: what may set a
+/// created atom, and what it then fires.
+fn derived(random: &mut Random) -> Vec<Row> {
+    let constants = *random.pick(&[1, 1, 2, 2, 3]);
+    let mut arities: Vec<usize> = (0..random.between(2, 3)).map(|_| random.below(2)).collect();
+    let goal: Vec<usize> = (1..=arities.len()).collect();
+    arities.extend((0..random.between(2, 4)).map(|_| random.below(2)));
+    let mut style = any_style(random, constants, arities);
+    style.negated_heads = *random.pick(&[15, 30]);
+    style.negated_bodies = *random.pick(&[30, 50]);
+    style.bodies = (1..=style.arities.len())
+        .flat_map(|s| {
+            if s > goal.len() {
+                vec![s, s, s]
+            } else {
+                vec![s]
+            }
+        })
+        .collect();
+    let mut rows = style.rows();
+    for _ in 0..random.between(3, 9) {
+        rows.push(random_rule(random, &style));
+    }
+    let atoms: Vec<Row> = (0..random.between(2, 6))
+        .map(|_| random_atom(random, constants, &style.arities, &goal))
+        .collect();
+    for _ in 0..random.between(1, 7) {
+        rows.push(random_clause(random, &atoms, 25, 35));
+    }
+    rows
+}
+
+/// A clause that is always satisfied and brings its atoms into the table.
+fn tautology(atoms: &[Row]) -> Row {
+    let mut literals = atoms.to_vec();
+    literals.push(negated(&atoms[0]));
+    clause(&literals)
+}
+
+fn all_of(symbol: i32, count: usize) -> Vec<Row> {
+    (1..=count as i32)
+        .map(|constant| vec![symbol, constant])
+        .collect()
+}
+
+/// Around 256 atoms: two symbols of arity 1 create every pair, other goal atoms make up the rest.
+fn table_limit(random: &mut Random) -> Vec<Row> {
+    let (f, g, e, r) = (1, 2, 3, 4);
+    let mut rows = vec![vec![1, 32], vec![2, 1], vec![2, 1], vec![2, 1], vec![2, 2]];
+    rows.push(rule(&[vec![f, 1], vec![g, 2]], &[vec![r, 1, 2]]));
+    if random.percent(50) {
+        rows.push(rule(
+            &[vec![r, 2, 1], vec![e, 1]],
+            &[vec![*random.pick(&[1, -1]) * f, 2]],
+        ));
+    }
+    if random.percent(50) {
+        rows.push(rule(
+            &[vec![r, 3, 4], vec![-e, 3]],
+            &[vec![*random.pick(&[1, -1]) * r, 4, 3]],
+        ));
+    }
+    let rest = if random.percent(30) {
+        17
+    } else {
+        random.between(13, 21)
+    };
+    if random.percent(50) {
+        rows.extend(all_of(e, rest).chunks(7).map(tautology));
+    } else {
+        rows.extend(all_of(e, rest).chunks(8).map(clause));
+    }
+    let mut units: Vec<Row> = all_of(f, 15);
+    units.extend(all_of(g, 14));
+    if random.percent(50) {
+        let place = random.below(units.len());
+        units[place] = negated(&units[place]);
+    }
+    rows.extend(units.iter().map(|literal| clause(std::slice::from_ref(literal))));
+    rows
+}
+
+/// Around 512 logged clauses: at most one of 32 atoms, at most one of a few, and, as long as z is true,
+/// an end that always fails, so that every pair is tried and logged. With z false a few more follow.
+fn log_limit(random: &mut Random) -> Vec<Row> {
+    let (h, g, p, q, z, r, t) = (1, 2, 3, 4, 5, 6, 7);
+    let mut rows = vec![vec![1, 32]];
+    rows.extend([1, 1, 0, 0, 0, 1, 1].map(|arity| vec![2, arity]));
+    rows.push(rule(&[vec![h, 1], vec![h, 2]], &[]));
+    rows.push(rule(&[vec![g, 2], vec![g, 1]], &[]));
+    let last = [
+        vec![],
+        vec![vec![t, 5]],
+        vec![vec![t, 5]],
+        vec![vec![r, 5], vec![t, 5]],
+        vec![vec![-z]],
+    ];
+    let body: &Vec<Row> = random.pick(&last);
+    rows.push(rule(&[vec![r, 5], vec![-z]], body));
+    random.shuffle(&mut rows[8..]);
+    rows.push(tautology(&[vec![z]]));
+    rows.extend(all_of(h, 32).chunks(7).map(tautology));
+    rows.push(tautology(&all_of(g, random.between(5, 6))));
+    for (a, b) in [(p, q), (p, -q), (-p, q), (-p, -q)] {
+        rows.push(clause(&[vec![-z], vec![a], vec![b]]));
+    }
+    rows.push(tautology(&all_of(r, random.between(1, 7))));
+    rows
+}
+
+/// Sheets at one of the limits of document 01, or one beyond it.
+fn sheet_limits(random: &mut Random) -> Vec<Row> {
+    let constants = random.between(1, 32);
+    let mut rows = vec![vec![1, constants as i32]];
+    let which = *random.pick(&[0, 0, 1, 1, 2, 2, 3, 3, 3, 3, 4, 5]);
+    match which {
+        0 => {
+            rows.extend((0..random.between(15, 17)).map(|_| vec![2, random.below(4) as i32]));
+        }
+        1 => {
+            rows.extend([vec![2, 0], vec![2, 0], vec![2, 1]]);
+            for _ in 0..random.between(31, 33) {
+                let style = any_style(random, constants.min(3), vec![0, 0, 1]);
+                rows.push(random_rule(random, &style));
+            }
+        }
+        2 => {
+            rows.extend([vec![2, 0], vec![2, 0], vec![2, 1]]);
+            let atoms = [vec![1], vec![2], vec![3, 1], vec![3, constants as i32]];
+            for _ in 0..random.between(63, 65) {
+                rows.push(random_clause(random, &atoms, 1, 40));
+            }
+        }
+        3 => {
+            rows[0][1] = 32;
+            rows.extend([vec![2, 1], vec![2, 1], vec![2, 0], vec![2, 1]]);
+            rows.push(rule(&[vec![1, 1], vec![2, 1]], &[vec![-4, 1]]));
+            let mut atoms: Vec<Row> = all_of(1, 32);
+            atoms.extend(all_of(2, 32));
+            atoms.push(vec![3]);
+            atoms.truncate(random.between(63, 65));
+            rows.extend(atoms.chunks(random.between(2, 8)).map(|part| {
+                let literals: Vec<Row> = part
+                    .iter()
+                    .map(|atom| {
+                        if random.percent(40) {
+                            negated(atom)
+                        } else {
+                            atom.clone()
+                        }
+                    })
+                    .collect();
+                clause(&literals)
+            }));
+        }
+        4 => {
+            rows.push(vec![2, 3]);
+            let atoms: Vec<Row> = (0..8)
+                .map(|_| random_atom(random, constants, &[3], &[1]))
+                .collect();
+            let mut row = clause(&atoms);
+            if random.percent(50) {
+                row.push(1);
+            }
+            rows.push(row);
+        }
+        _ => {
+            // Constants of two digits, in clauses and in a rule, at the edge of their range.
+            rows.extend([vec![2, 1], vec![2, 2]]);
+            let last = constants as i32;
+            let over = last + random.below(2) as i32;
+            rows.push(rule(
+                &[vec![1, -last], vec![2, 4, 2]],
+                &[vec![-1, *random.pick(&[2, 4, -1, -over])]],
+            ));
+            rows.push(clause(&[vec![1, last]]));
+            rows.push(clause(&[vec![
+                2,
+                *random.pick(&[1, last]),
+                *random.pick(&[1, last, over]),
+            ]]));
+        }
+    }
+    // Which question comes first, where the last line breaks two of them?
+    let end = rows.len() - 1;
+    if random.percent(if which < 3 { 50 } else { 20 }) {
+        match random.below(6) {
+            0..=1 => rows[end][1] = 9,
+            2 => rows[end].push(1),
+            3 => rows[end].truncate(2),
+            4 => rows[end].truncate(1),
+            _ => rows[end][0] = 1,
+        }
+    } else if which < 2 {
+        rows.push(clause(&[]));
+    }
+    rows
+}
+
+/// Bytes that are hardly a sheet: none, too many, blanks, noise.
+fn raw(random: &mut Random) -> Vec<u8> {
+    match random.below(7) {
+        0 => Vec::new(),
+        1 => vec![b' '; SHEET + random.below(2)],
+        2 => vec![b'\n'; random.between(1, 3)],
+        3 => text(&vec![vec![1, 1]; 2000])[..SHEET + random.below(2)].to_vec(),
+        4 => (0..random.between(1, 40))
+            .map(|_| random.below(256) as u8)
+            .collect(),
+        5 => (0..random.between(1, 80))
+            .map(|_| *random.pick(b"  1234-0\n"))
+            .collect(),
+        _ => {
+            let mut sheet = b"   1   1\n".to_vec();
+            sheet.extend(vec![b' '; random.between(1, 150)]);
+            if random.percent(50) {
+                sheet.push(b'\n');
+            }
+            sheet
+        }
+    }
+}

@@ -1,0 +1,142 @@
+//! Demand 3: a sheet that keeps an UNSAT one's constants, symbols, rules and clauses is never answered
+//! UNKNOWN, at whatever budget, and no assignment satisfies it.
+
+use crate::check::{check, Same};
+use crate::generate::{any_style, random_atom, random_clause, random_rule, Case};
+use crate::meaning;
+use crate::random::Random;
+use crate::reader::{self, ROOM};
+use crate::rows::{rows, text, Row};
+use crate::search::Verdict;
+
+/// Assignments are enumerated up to so many atoms.
+const ATOMS: usize = 14;
+
+/// What came of a larger sheet.
+#[derive(Default)]
+pub struct Outcome {
+    pub calls: u64,
+    pub enumerated: bool,
+}
+
+/// A sheet that keeps the given accepted one, with more besides and in another order. Nothing if it
+/// would break a limit.
+pub fn larger(random: &mut Random, sheet: &[u8]) -> Option<Vec<u8>> {
+    let first = rows(sheet)?;
+    let of_kind = |kind: i32| {
+        first
+            .iter()
+            .filter(|row| row[0] == kind)
+            .cloned()
+            .collect::<Vec<Row>>()
+    };
+    let constants = first[0][1] as usize;
+    let more_constants = if random.percent(50) {
+        constants
+    } else {
+        (constants + random.between(1, 2)).min(32)
+    };
+    let mut arities: Vec<usize> = of_kind(2).iter().map(|row| row[1] as usize).collect();
+    for _ in 0..random.below(3) {
+        arities.push(random.below(3));
+    }
+    let (mut rules, mut clauses) = (of_kind(3), of_kind(4));
+    // The lines count as a set: a line that stands twice may stand once.
+    if random.percent(50) {
+        once(&mut rules);
+        once(&mut clauses);
+    }
+    let style = any_style(random, more_constants, arities);
+    if !style.arities.is_empty() {
+        for _ in 0..random.below(4) {
+            rules.push(random_rule(random, &style));
+        }
+        let atoms: Vec<Row> = (0..3)
+            .map(|_| random_atom(random, more_constants, &style.arities, &style.heads))
+            .collect();
+        for _ in 0..random.below(5) {
+            clauses.push(random_clause(random, &atoms, 30, 40));
+        }
+    }
+    random.shuffle(&mut rules);
+    random.shuffle(&mut clauses);
+    let mut second = vec![vec![1, more_constants as i32]];
+    second.extend(style.arities.iter().map(|&arity| vec![2, arity as i32]));
+    second.extend(rules);
+    second.extend(clauses);
+    assert!(
+        keeps(&first, &second),
+        "the larger sheet does not keep the smaller one"
+    );
+    let second = text(&second);
+    reader::read(&second, ROOM).is_ok().then_some(second)
+}
+
+fn once(rows: &mut Vec<Row>) {
+    let mut kept: Vec<Row> = Vec::new();
+    for row in rows.drain(..) {
+        if !kept.contains(&row) {
+            kept.push(row);
+        }
+    }
+    *rows = kept;
+}
+
+/// Does the second sheet keep the first one's constants, symbols, rules and clauses?
+fn keeps(first: &[Row], second: &[Row]) -> bool {
+    let of_kind = |rows: &[Row], kind: i32| {
+        rows.iter()
+            .filter(|row| row[0] == kind)
+            .cloned()
+            .collect::<Vec<Row>>()
+    };
+    first[0][1] <= second[0][1]
+        && of_kind(second, 2).starts_with(&of_kind(first, 2))
+        && first
+            .iter()
+            .filter(|row| row[0] >= 3)
+            .all(|row| second.contains(row))
+}
+
+/// The larger sheet at several budgets, compared as every call is; and by its assignments if they are few.
+pub fn check_larger(random: &mut Random, second: &[u8]) -> Result<Outcome, (Case, Vec<String>)> {
+    let mut outcome = Outcome::default();
+    for budget in [0, 1 + random.below(6) as u32, 1_000_000] {
+        let case = Case {
+            sheet: second.to_vec(),
+            budget,
+            room: ROOM,
+        };
+        match check(&case) {
+            Err(differences) => return Err((case, differences)),
+            Ok(Same::Ended { ended, .. }) if ended.verdict == Verdict::Unknown => {
+                return Err((
+                    case,
+                    vec!["demand 3: UNKNOWN, though the smaller sheet is UNSAT".into()],
+                ));
+            }
+            Ok(_) => outcome.calls += 1,
+        }
+    }
+    let Ok(problem) = reader::read(second, ROOM) else {
+        return Ok(outcome);
+    };
+    if problem.atom_count() <= ATOMS {
+        outcome.enumerated = true;
+        if meaning::satisfiable(&problem) {
+            let case = Case {
+                sheet: second.to_vec(),
+                budget: 0,
+                room: ROOM,
+            };
+            return Err((
+                case,
+                vec![
+                    "demand 3: an assignment satisfies it, though the smaller sheet is UNSAT"
+                        .into(),
+                ],
+            ));
+        }
+    }
+    Ok(outcome)
+}

@@ -1,0 +1,155 @@
+//! brute [SEED [COUNT]]: random sheets, each decided from its meaning and by a second implementation
+//! of document 01's search, compared with the library's two calls.
+//! brute --vectors FOLDER: stored sheets and listings instead.
+//!
+//! Nothing here is shared with the solver. The last line tells the differences; exit status 1 if there
+//! are any, or if a long run never met an answer or a refusal that can come up.
+
+mod check;
+mod damage;
+mod generate;
+mod interface;
+mod larger;
+mod listing;
+mod meaning;
+mod problem;
+mod random;
+mod reader;
+mod rows;
+mod search;
+mod shrink;
+mod tally;
+mod vectors;
+
+use check::Same;
+use generate::Case;
+use random::Random;
+use search::Verdict;
+use std::path::Path;
+use std::process::ExitCode;
+use std::time::{Duration, Instant};
+use tally::Tally;
+
+const SEED: u64 = 20_230_517;
+/// About 40 seconds.
+const COUNT: u64 = 90_000;
+/// A run ends at so many differences.
+const ENOUGH: u64 = 3;
+/// A call of the library needs over 1 MB of stack.
+const STACK: usize = 64 << 20;
+
+fn main() -> ExitCode {
+    let worker = std::thread::Builder::new()
+        .stack_size(STACK)
+        .spawn(run)
+        .expect("a thread");
+    match worker.join() {
+        Ok(true) => ExitCode::SUCCESS,
+        _ => ExitCode::FAILURE,
+    }
+}
+
+fn run() -> bool {
+    let words: Vec<String> = std::env::args().skip(1).collect();
+    match words
+        .iter()
+        .map(String::as_str)
+        .collect::<Vec<_>>()
+        .as_slice()
+    {
+        ["--vectors", folder] => vectors::run(Path::new(folder)).unwrap_or_else(|error| {
+            eprintln!("brute: {error}");
+            false
+        }),
+        [] => random_sheets(SEED, COUNT),
+        [seed] => with_numbers(seed, &COUNT.to_string()),
+        [seed, count] => with_numbers(seed, count),
+        _ => usage(),
+    }
+}
+
+fn with_numbers(seed: &str, count: &str) -> bool {
+    match (seed.parse(), count.parse()) {
+        (Ok(seed), Ok(count)) => random_sheets(seed, count),
+        _ => usage(),
+    }
+}
+
+fn usage() -> bool {
+    eprintln!("usage: brute [SEED [COUNT]] | brute --vectors FOLDER");
+    false
+}
+
+fn random_sheets(seed: u64, count: u64) -> bool {
+    let mut tally = Tally::default();
+    let mut differences = 0;
+    if !interface::needs_five_places(b"   1   1\n") {
+        differences += 1;
+        println!("with fewer than five places the first call does not leave all unchanged and hand back 0");
+    }
+    let mut told = Instant::now();
+    for index in 0..count {
+        if told.elapsed() > Duration::from_secs(5) {
+            eprintln!("brute: {index} of {count} sheets, seed {seed}");
+            told = Instant::now();
+        }
+        tally.sheets += 1;
+        if let Err(report) = one_sheet(&mut Random::new(seed, index), &mut tally) {
+            differences += 1;
+            println!("sheet {index} of seed {seed}, made smaller:\n{report}");
+            if differences >= ENOUGH {
+                break;
+            }
+        }
+    }
+    let complete = tally.print();
+    println!("brute: {} sheets, {differences} differences", tally.sheets);
+    complete && differences == 0
+}
+
+/// One random sheet, at its budget and now and then at budgets around the decisions that it took; for an
+/// UNSAT one now and then a larger sheet. An error is a report.
+fn one_sheet(random: &mut Random, tally: &mut Tally) -> Result<(), String> {
+    let case = generate::case(random);
+    let same = compared(&case)?;
+    tally.count(&same);
+    let Same::Ended { ended, .. } = &same else {
+        return Ok(());
+    };
+    if ended.decisions > 0 && random.percent(25) {
+        let most = ended.decisions as u32;
+        for budget in [most - 1, most, random.below(most as usize) as u32] {
+            tally.count(&compared(&Case {
+                budget,
+                ..case.clone()
+            })?);
+        }
+    }
+    if ended.verdict == Verdict::Unsat && random.percent(40) {
+        if let Some(second) = larger::larger(random, &case.sheet) {
+            let outcome =
+                larger::check_larger(random, &second).map_err(|(case_two, differences)| {
+                    if check::check(&case_two).is_err() {
+                        report(&case_two)
+                    } else {
+                        let smaller =
+                            format!("the smaller sheet:\n{}", check::printable(&case.sheet));
+                        smaller + &check::describe(&case_two, &differences)
+                    }
+                })?;
+            tally.count_larger(&outcome);
+        }
+    }
+    Ok(())
+}
+
+fn compared(case: &Case) -> Result<Same, String> {
+    check::check(case).map_err(|_| report(case))
+}
+
+/// A differing case made smaller and described.
+fn report(case: &Case) -> String {
+    let smallest = shrink::shrink(case);
+    let differences = check::check(&smallest).err().unwrap_or_default();
+    check::describe(&smallest, &differences)
+}

@@ -1,0 +1,226 @@
+//! The reader of sheets: document 01's questions 1 to 13, asked in order.
+
+use crate::problem::{Atom, Literal, Pattern, Problem, Rule, Term};
+
+/// The room that question 1 asks for.
+pub const ROOM: usize = 45_056;
+/// The longest sheet.
+pub const SHEET: usize = 16_384;
+
+/// The number of the question that was answered no, and the line, from 1; 0 for the call's own questions.
+#[derive(Clone, Copy, PartialEq, Eq, Debug)]
+pub struct Refusal {
+    pub number: u64,
+    pub line: u64,
+}
+
+pub fn read(sheet: &[u8], room: usize) -> Result<Problem, Refusal> {
+    let call = |number| Refusal { number, line: 0 };
+    if room < ROOM {
+        return Err(call(1));
+    }
+    if sheet.len() > SHEET {
+        return Err(call(2));
+    }
+    if sheet.is_empty() {
+        return Err(call(3));
+    }
+    let mut problem = Problem::default();
+    let mut kind_before = None;
+    for (index, line) in sheet.split_inclusive(|&byte| byte == b'\n').enumerate() {
+        match read_line(line, kind_before, &mut problem) {
+            Ok(kind) => kind_before = Some(kind),
+            Err(number) => {
+                return Err(Refusal {
+                    number,
+                    line: index as u64 + 1,
+                })
+            }
+        }
+    }
+    Ok(problem)
+}
+
+/// Questions 4 to 13 of one line. Hands back its kind, or the number of the first no.
+fn read_line(line: &[u8], kind_before: Option<i32>, problem: &mut Problem) -> Result<i32, u64> {
+    let Some((b'\n', text)) = line.split_last() else {
+        return Err(4);
+    };
+    if text.len() < 4 || text.len() > 136 || text.len() % 4 != 0 {
+        return Err(5);
+    }
+    let columns: Option<Vec<i32>> = text.chunks(4).map(column).collect();
+    let columns = columns.ok_or(6u64)?;
+    let kind = columns[0];
+    let kind_fits = match kind_before {
+        None => kind == 1,
+        Some(before) => (2..=4).contains(&kind) && kind >= before,
+    };
+    if !kind_fits {
+        return Err(7);
+    }
+    match kind {
+        1 => constants_line(&columns, problem)?,
+        2 => symbol_line(&columns, problem)?,
+        3 => rule_line(&columns, problem)?,
+        _ => clause_line(&columns, problem)?,
+    }
+    Ok(kind)
+}
+
+/// A decimal right-justified with blanks: no leading zero, no plus, no -0.
+pub fn column(bytes: &[u8]) -> Option<i32> {
+    let blanks = bytes.iter().take_while(|&&byte| byte == b' ').count();
+    let (negative, digits) = match &bytes[blanks..] {
+        [b'-', digits @ ..] => (true, digits),
+        digits => (false, digits),
+    };
+    if digits.is_empty() || !digits.iter().all(u8::is_ascii_digit) {
+        return None;
+    }
+    if digits[0] == b'0' && (negative || digits.len() > 1) {
+        return None;
+    }
+    let size = digits
+        .iter()
+        .fold(0, |size, &digit| size * 10 + i32::from(digit - b'0'));
+    Some(if negative { -size } else { size })
+}
+
+/// Question 8 of one number: is it there and in range?
+fn number(columns: &[i32], place: usize, lowest: i32, highest: i32) -> Result<usize, u64> {
+    match columns.get(place) {
+        Some(&value) if (lowest..=highest).contains(&value) => Ok(value as usize),
+        _ => Err(8),
+    }
+}
+
+fn constants_line(columns: &[i32], problem: &mut Problem) -> Result<(), u64> {
+    let constants = number(columns, 1, 1, 32)?;
+    if columns.len() > 2 {
+        return Err(11);
+    }
+    problem.constants = constants;
+    Ok(())
+}
+
+fn symbol_line(columns: &[i32], problem: &mut Problem) -> Result<(), u64> {
+    let arity = number(columns, 1, 0, 3)?;
+    if problem.arities.len() == 16 {
+        return Err(9);
+    }
+    if columns.len() > 2 {
+        return Err(11);
+    }
+    problem.arities.push(arity);
+    Ok(())
+}
+
+fn rule_line(columns: &[i32], problem: &mut Problem) -> Result<(), u64> {
+    let head_count = number(columns, 1, 1, 3)?;
+    let body_count = number(columns, 2, 0, 2)?;
+    if problem.rules.len() == 32 {
+        return Err(9);
+    }
+    let mut place = 3;
+    let mut patterns = Vec::new();
+    for _ in 0..head_count + body_count {
+        patterns.push(pattern(columns, &mut place, problem)?);
+    }
+    if place < columns.len() {
+        return Err(11);
+    }
+    let body = patterns.split_off(head_count);
+    let rule = Rule {
+        heads: patterns,
+        body,
+    };
+    for variable in 1..=6 {
+        let in_body = rule
+            .body
+            .iter()
+            .any(|literal| literal.holds_variable(variable));
+        let in_head = rule
+            .heads
+            .iter()
+            .any(|literal| literal.holds_variable(variable));
+        if in_body && !in_head {
+            return Err(12);
+        }
+    }
+    problem.rules.push(rule);
+    Ok(())
+}
+
+fn clause_line(columns: &[i32], problem: &mut Problem) -> Result<(), u64> {
+    let count = number(columns, 1, 0, 8)?;
+    if problem.clauses.len() == 64 {
+        return Err(9);
+    }
+    let mut place = 2;
+    let mut clause = Vec::new();
+    for _ in 0..count {
+        clause.push(ground_literal(columns, &mut place, problem)?);
+    }
+    if place < columns.len() {
+        return Err(11);
+    }
+    problem.clauses.push(clause);
+    if problem.goal_atoms().len() > 64 {
+        return Err(13);
+    }
+    Ok(())
+}
+
+/// The next column; a missing one is a no to question 10.
+fn next(columns: &[i32], place: &mut usize) -> Result<i32, u64> {
+    let value = *columns.get(*place).ok_or(10u64)?;
+    *place += 1;
+    Ok(value)
+}
+
+/// The sign and the number of a declared symbol.
+fn symbol(columns: &[i32], place: &mut usize, problem: &Problem) -> Result<(bool, usize), u64> {
+    let value = next(columns, place)?;
+    let symbol = value.unsigned_abs() as usize;
+    if symbol == 0 || symbol > problem.arities.len() {
+        return Err(10);
+    }
+    Ok((value < 0, symbol))
+}
+
+fn pattern(columns: &[i32], place: &mut usize, problem: &Problem) -> Result<Pattern, u64> {
+    let (negated, symbol) = symbol(columns, place, problem)?;
+    let mut terms = Vec::new();
+    for _ in 0..problem.arities[symbol - 1] {
+        let value = next(columns, place)?;
+        terms.push(match value {
+            1..=6 => Term::Variable(value as usize),
+            _ if value < 0 && -value as usize <= problem.constants => {
+                Term::Constant(-value as usize)
+            }
+            _ => return Err(10),
+        });
+    }
+    Ok(Pattern {
+        negated,
+        symbol,
+        terms,
+    })
+}
+
+fn ground_literal(columns: &[i32], place: &mut usize, problem: &Problem) -> Result<Literal, u64> {
+    let (negated, symbol) = symbol(columns, place, problem)?;
+    let mut constants = [0; 3];
+    for constant in &mut constants[..problem.arities[symbol - 1]] {
+        let value = next(columns, place)?;
+        if value < 1 || value as usize > problem.constants {
+            return Err(10);
+        }
+        *constant = value as usize;
+    }
+    Ok(Literal {
+        negated,
+        atom: Atom { symbol, constants },
+    })
+}

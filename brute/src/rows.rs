@@ -1,0 +1,60 @@
+//! A sheet as rows of numbers, the form in which sheets are made, enlarged and made smaller.
+
+use crate::reader::column;
+
+pub type Row = Vec<i32>;
+
+/// A row as a line: columns of 4 bytes, then LF.
+pub fn line(row: &[i32]) -> Vec<u8> {
+    let mut text: String = row.iter().map(|number| format!("{number:>4}")).collect();
+    text.push('\n');
+    text.into_bytes()
+}
+
+pub fn text(rows: &[Row]) -> Vec<u8> {
+    rows.iter().flat_map(|row| line(row)).collect()
+}
+
+/// The rows of a sheet, if every line is one of columns.
+pub fn rows(sheet: &[u8]) -> Option<Vec<Row>> {
+    sheet
+        .split_inclusive(|&byte| byte == b'\n')
+        .map(|line| match line.split_last() {
+            Some((b'\n', text)) if text.len() % 4 == 0 => text.chunks(4).map(column).collect(),
+            _ => None,
+        })
+        .collect()
+}
+
+/// The literals of a rule or clause row as rows of their own, if its columns allow it.
+pub fn literals(row: &[i32], arities: &[i32]) -> Option<Vec<Row>> {
+    let counts = if row.first() == Some(&3) { 3 } else { 2 };
+    let mut rest = row.get(counts..)?;
+    let mut literals = Vec::new();
+    while let Some(&symbol) = rest.first() {
+        let arity = *arities.get((symbol.unsigned_abs() as usize).checked_sub(1)?)?;
+        let length = 1 + usize::try_from(arity).ok()?;
+        literals.push(rest.get(..length)?.to_vec());
+        rest = &rest[length..];
+    }
+    Some(literals)
+}
+
+pub fn rule(heads: &[Row], body: &[Row]) -> Row {
+    let mut row = vec![3, heads.len() as i32, body.len() as i32];
+    row.extend(heads.iter().chain(body).flatten());
+    row
+}
+
+pub fn clause(literals: &[Row]) -> Row {
+    let mut row = vec![4, literals.len() as i32];
+    row.extend(literals.iter().flatten());
+    row
+}
+
+/// A literal with the other sign.
+pub fn negated(literal: &Row) -> Row {
+    let mut row = literal.clone();
+    row[0] = -row[0];
+    row
+}
