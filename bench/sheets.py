@@ -1,0 +1,224 @@
+#!/usr/bin/env python3
+"""sheets.py FOLDER: writes the sheets of the bench, FAMILY_NAME.sheet.
+
+Four families: a cycles and lines of an order, closed under transitivity; b searches with many decisions
+and conflicts; c joins of three heads, in which step B does the work; d build sheets of a timing machine,
+as an order desk and a drawing office would write them. Every sheet is the same in every run."""
+
+import os
+import random
+import sys
+
+
+class Sheet:
+    """A sheet by its lines; symbols are handed back as their numbers."""
+
+    def __init__(self, constants):
+        self.constants = constants
+        self.arities = []
+        self.rules = []
+        self.clauses = []
+        self.goal = set()
+
+    def symbol(self, arity):
+        self.arities.append(arity)
+        return len(self.arities)
+
+    def rule(self, heads, body):
+        self.rules.append([3, len(heads), len(body)] + [n for literal in heads + body for n in literal])
+
+    def clause(self, *literals):
+        """Adds the clause unless it would be one goal atom or one clause too many."""
+        atoms = {(abs(literal[0]),) + literal[1:] for literal in literals}
+        if len(self.goal | atoms) > 64 or len(self.clauses) == 64:
+            return
+        self.goal |= atoms
+        self.clauses.append([4, len(literals)] + [n for literal in literals for n in literal])
+
+    def text(self):
+        lines = [[1, self.constants]] + [[2, arity] for arity in self.arities] + self.rules + self.clauses
+        return ''.join(''.join('%4d' % number for number in line) + '\n' for line in lines)
+
+
+# ---- a: an order, closed under transitivity
+
+def order_rules(sheet, before):
+    sheet.rule([(before, 1, 2), (before, 2, 3)], [(before, 1, 3)])
+    sheet.rule([(before, 1, 1)], [])
+    sheet.rule([(before, 1, 2), (before, 2, 1)], [])
+
+
+def cycle(count):
+    """1 before 2 before ... before 1: UNSAT."""
+    sheet = Sheet(count)
+    before = sheet.symbol(2)
+    order_rules(sheet, before)
+    for k in range(1, count + 1):
+        sheet.clause((before, k, k % count + 1))
+    return sheet
+
+
+def line(count):
+    """The same without the last step: the whole closure and no conflict."""
+    sheet = Sheet(count)
+    before = sheet.symbol(2)
+    order_rules(sheet, before)
+    for k in range(1, count):
+        sheet.clause((before, k, k + 1))
+    return sheet
+
+
+# ---- b: decisions and conflicts
+
+def pigeons(pigeon_count, hole_count):
+    """Each pigeon has a hole, no hole has two: UNSAT if there are too few holes."""
+    sheet = Sheet(max(pigeon_count, hole_count))
+    sits = sheet.symbol(2)
+    sheet.rule([(sits, 1, 3), (sits, 2, 3)], [])
+    for pigeon in range(1, pigeon_count + 1):
+        sheet.clause(*[(sits, pigeon, hole) for hole in range(1, hole_count + 1)])
+    return sheet
+
+
+def colours(nodes, colour_count, edge_count, seed):
+    """A random graph to be coloured."""
+    draw = random.Random(seed)
+    sheet = Sheet(max(nodes, colour_count))
+    edge, colour = sheet.symbol(2), sheet.symbol(2)
+    sheet.rule([(edge, 1, 2), (colour, 1, 3), (colour, 2, 3)], [])
+    for node in range(1, nodes + 1):
+        sheet.clause(*[(colour, node, k) for k in range(1, colour_count + 1)])
+    pairs = [(x, y) for x in range(1, nodes + 1) for y in range(x + 1, nodes + 1)]
+    for x, y in sorted(draw.sample(pairs, edge_count)):
+        sheet.clause((edge, x, y))
+    return sheet
+
+
+def threes(atoms, clauses, seed):
+    """Random clauses of three literals, no rule."""
+    draw = random.Random(seed)
+    sheet = Sheet(atoms)
+    p = sheet.symbol(1)
+    for _ in range(clauses):
+        sheet.clause(*[(draw.choice([p, -p]), k) for k in draw.sample(range(1, atoms + 1), 3)])
+    return sheet
+
+
+def no_first(count):
+    """Every pair is ordered, but each has one before it: UNSAT."""
+    sheet = Sheet(count)
+    before = sheet.symbol(2)
+    order_rules(sheet, before)
+    for x in range(1, count + 1):
+        for y in range(x + 1, count + 1):
+            sheet.clause((before, x, y), (before, y, x))
+    for x in range(1, count + 1):
+        sheet.clause(*[(before, y, x) for y in range(1, count + 1) if y != x])
+    return sheet
+
+
+# ---- c: joins
+
+def join(heads, body, arities, constants, facts, free, seed):
+    """One rule over random facts; some facts are free, so that step B runs again after each decision."""
+    draw = random.Random(seed)
+    sheet = Sheet(constants)
+    for arity in arities:
+        sheet.symbol(arity)
+    sheet.rule(heads, body)
+    symbols = sorted({abs(head[0]) for head in heads})
+    drawn = []
+    while len(drawn) < facts + free:
+        symbol = draw.choice(symbols)
+        fact = (symbol,) + tuple(draw.randint(1, constants) for _ in range(arities[symbol - 1]))
+        if fact not in drawn:
+            drawn.append(fact)
+    for fact in drawn[:facts]:
+        sheet.clause(fact)
+    for k in range(facts, facts + free, 4):
+        sheet.clause(*drawn[k:k + 4])
+    return sheet
+
+
+# ---- d: build sheets
+
+def machine(heads, amplifiers, holders, others, seed, crossed=False):
+    """A timing machine to be put together: which heads, amplifiers and holders are mounted, and in what
+    order. With crossed, wishes are added that may not go with the rest."""
+    draw = random.Random(seed)
+    numbers = iter(range(1, 33))
+    stands_there = [next(numbers) for _ in range(2)]
+    head_parts = [next(numbers) for _ in range(heads)]
+    amplifier_parts = [next(numbers) for _ in range(amplifiers)]
+    holder_parts = [next(numbers) for _ in range(holders)]
+    other_parts = [next(numbers) for _ in range(others)]
+    positions = [next(numbers) for _ in range(3)]
+    parts = stands_there + head_parts + amplifier_parts + holder_parts + other_parts
+    sheet = Sheet(positions[-1])
+    mounted, before, serves, stands, holds, excludes = (sheet.symbol(arity) for arity in (1, 2, 2, 2, 2, 2))
+    sheet.rule([(before, 1, 1)], [])
+    sheet.rule([(excludes, 1, 2), (mounted, 1), (mounted, 2)], [])
+    sheet.rule([(holds, 1, 2)], [(mounted, 1)])
+    sheet.rule([(serves, 1, 2)], [(mounted, 1), (mounted, 2)])
+    sheet.rule([(serves, 1, 2)], [(before, 1, 2)])
+    sheet.rule([(stands, 1, 2)], [(mounted, 1), (before, 2, 1)])
+    sheet.rule([(before, 1, 2), (before, 2, 3)], [(before, 1, 3)])
+
+    for group in (head_parts, amplifier_parts, holder_parts):
+        for k, first in enumerate(group):
+            for second in group[k + 1:]:
+                if draw.random() < .35:
+                    sheet.clause((excludes, first, second))
+    for part in other_parts:
+        sheet.clause((mounted, part))
+    for _ in range(others + 2):
+        # By number, so that these alone make no circle; a serving amplifier goes against that order.
+        first, second = sorted(draw.sample(parts[2:], 2))
+        sheet.clause((before, first, second))
+    for k in range(0, heads, 2):
+        sheet.clause(*[(stands, part, draw.choice(stands_there)) for part in head_parts[k:k + 3]])
+    for part in head_parts:
+        for stand in stands_there:
+            if (stands, part, stand) in sheet.goal:
+                able = draw.sample(amplifier_parts, 2)
+                sheet.clause((-stands, part, stand), *[(serves, amplifier, part) for amplifier in able])
+    for position in positions:
+        sheet.clause(*[(holds, part, position) for part in draw.sample(holder_parts, 2)])
+    if crossed:
+        for amplifier in draw.sample(amplifier_parts, amplifiers // 2):
+            sheet.clause((-mounted, amplifier))
+    return sheet
+
+
+U, T, OUT = 1, 2, 3
+SHEETS = {
+    'a_cycle_08': cycle(8), 'a_cycle_12': cycle(12), 'a_cycle_16': cycle(16), 'a_cycle_20': cycle(20),
+    'a_line_10': line(10), 'a_line_16': line(16), 'a_line_22': line(22),
+    'b_pigeons_5_4': pigeons(5, 4), 'b_pigeons_6_5': pigeons(6, 5), 'b_pigeons_7_6': pigeons(7, 6),
+    'b_colours_9_3': colours(9, 3, 20, 3), 'b_colours_6_4': colours(6, 4, 14, 5),
+    'b_threes_13': threes(13, 64, 20), 'b_threes_14': threes(14, 64, 51), 'b_no_first_5': no_first(5),
+    'c_path_12': join([(U, 1, 2), (U, 2, 3), (U, 3, 4)], [(OUT, 1, 4)], [2, 3, 2], 12, 24, 8, 1),
+    'c_path_32': join([(U, 1, 2), (U, 2, 3), (U, 3, 4)], [(OUT, 1, 4)], [2, 3, 2], 32, 40, 8, 2),
+    'c_triangle_16': join([(U, 1, 2), (U, 2, 3), (U, 1, 3)], [(OUT, 1, 3)], [2, 3, 2], 16, 40, 12, 3),
+    'c_late_16': join([(U, 1, 4), (U, 2, 4), (U, 3, 4)], [(OUT, 1, 3)], [2, 3, 2], 16, 28, 8, 4),
+    'c_wide_16': join([(T, 1, 2, 3), (U, 3, 4), (-U, 4, 1)], [], [2, 3, 2], 16, 40, 12, 5),
+    'c_apart_10': join([(U, 1, 2), (U, 3, 4)], [(OUT, 1, 4)], [2, 3, 2], 10, 16, 8, 6),
+    'c_cross_06': join([(T, 1, 3, 5), (T, 2, 4, 6)], [(OUT, 1, 6)], [2, 3, 2], 6, 16, 4, 7),
+    'd_machine_1': machine(2, 2, 3, 3, 1), 'd_machine_2': machine(3, 3, 3, 4, 31),
+    'd_machine_3': machine(4, 4, 4, 4, 19), 'd_machine_4': machine(4, 4, 5, 5, 12),
+    'd_machine_5': machine(6, 6, 5, 5, 7), 'd_crossed_1': machine(4, 4, 4, 4, 19, True),
+    'd_crossed_2': machine(5, 5, 5, 6, 30, True), 'd_crossed_3': machine(6, 6, 5, 5, 29, True),
+}
+
+
+def main(folder):
+    os.makedirs(folder, exist_ok=True)
+    for name, sheet in SHEETS.items():
+        with open(os.path.join(folder, name + '.sheet'), 'w', encoding='ascii') as file:
+            file.write(sheet.text())
+
+
+if __name__ == '__main__':
+    if len(sys.argv) != 2:
+        sys.exit(__doc__)
+    main(sys.argv[1])
