@@ -416,7 +416,11 @@ fn table_limit(random: &mut Random) -> Vec<Row> {
         let place = random.below(units.len());
         units[place] = negated(&units[place]);
     }
-    rows.extend(units.iter().map(|literal| clause(std::slice::from_ref(literal))));
+    rows.extend(
+        units
+            .iter()
+            .map(|literal| clause(std::slice::from_ref(literal))),
+    );
     rows
 }
 

@@ -28,7 +28,7 @@ fn candidates(case: &Case) -> Vec<Case> {
         sheet,
         ..case.clone()
     };
-    for part in [8, 4, 2, 1] {
+    for part in [32, 8, 4, 2, 1] {
         all.extend(without_lines(&case.sheet, part).into_iter().map(with_sheet));
     }
     if case.room > ROOM {
@@ -54,7 +54,12 @@ fn candidates(case: &Case) -> Vec<Case> {
             );
         }
         _ => {
-            for part in [16, 4, 1] {
+            // Small parts only of sheets that are small already: each candidate is a copy.
+            let parts = [4096, 512, 64, 16, 4, 1];
+            for part in parts
+                .into_iter()
+                .filter(|part| case.sheet.len() / part < 512)
+            {
                 all.extend(without_bytes(&case.sheet, part).into_iter().map(with_sheet));
             }
         }
