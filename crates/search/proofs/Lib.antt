@@ -4,6 +4,7 @@ pub mod LogClauses
 pub mod LogFillings
 pub mod LogTurns
 pub mod RuleLaws
+pub mod ScanLaws
 pub mod SearchTurns
 pub mod SkipLaws
 pub mod SlotLaws

@@ -6,8 +6,8 @@ mod lines; // lines.rt: a line of each kind
 
 use definitions::Refusal;
 ghost use mathlib.Core.Path.{_≡_};
-ghost use Prim.Native.Nat.{ℕ, _+_, _-_, _/_, _≤_, _<_};
-ghost use lib.ListN.{length, take, drop};
+ghost use Prim.Native.Nat.{_+_, _-_, _/_, _≤_, _<_};
+ghost use lib.ListN.{drop};
 ghost use Rattle.definitions.specs.Questions.{read};
 ghost use Rattle.sheet.specs.Rows.{numbers};
 ghost use Rattle.sheet.specs.Encoding.{arrays, emptyIndex};
