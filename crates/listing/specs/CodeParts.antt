@@ -4,29 +4,22 @@ use mathlib.Core.Path.{_≡_, sym, _∙_, ap}
 use mathlib.Core.Bool.{not}
 use mathlib.Core.List.{List, map, map-id}
 use native.Mathlib.Omega.{arith}
-use lib.Dec.{ltb}
-use lib.ListN.{length, getD, List·getD-eq-default}
+use lib.ListN.{length, getD}
 use lib.Seq.{take-length}
-use borrow.Author.Tests.{ltb-true, ltb-false}
 use Rattle.definitions.specs.Lists.{upFrom}
 use Rattle.definitions.specs.Words.{Atom, Literal}
 use Rattle.definitions.specs.Sheet.{plus}
 use Rattle.definitions.specs.Listing.{literalNumbers}
-use Rattle.theory.specs.Tests.{by-test}
 use Rattle.sheet.specs.Encoding.{place, atomCode}
-use Rattle.sheet.specs.CodeLaws.{CodeLimits, AtomLimits, arity-at-most}
-use Rattle.search.specs.PlaceLaws.{getElem-in, getD-in}
+use Rattle.sheet.specs.CodeLaws.{CodeLimits, AtomLimits, arity-at-most, argument-at}
+use Rattle.search.specs.PlaceLaws.{getElem-in}
 use Rattle.listing.specs.Lines.{codeSymbol, codeConstant, constantNumber, codeNumbers}
 use Rattle.listing.specs.JoinedLaws.{front-at, map-places}
 
 module _ (constants : ℕ) (declared : List ℕ) (limits : CodeLimits constants declared) (a : Atom) (h : AtomLimits constants declared a) where
-  -- a constant is from 1 to 32, and so is the 1 that stands for one the atom lacks
   place-range : (i : ℕ) → (place (a .args) i < 32) × (place (a .args) i + 1 ≡ getD (a .args) i 1)
   unfolding place
-  place-range i =
-      by-test (ltb i (length (a .args)))
-      (λ e. omega (arith, limits .few, h .inRange (getD (a .args) i 1) (getD-in (a .args) i 1 (ltb-true i (length (a .args)) e))))
-      (λ e. omega (arith, List·getD-eq-default (a .args) 1 (ltb-false i (length (a .args)) e)))
+  place-range i = omega (arith, argument-at constants declared limits a h i)
 
   symbol-told : codeSymbol (atomCode a) ≡ a .symbol - 1
   unfolding codeSymbol atomCode

@@ -20,13 +20,13 @@ use Rattle.theory.specs.ListLaws.{Different, joined-append}
 use Rattle.theory.specs.WordLaws.{sameAtom-eq, sameAtom-refl}
 use Rattle.theory.specs.Unknown.{consistent}
 use Rattle.sheet.specs.Encoding.{atomCode, position, literalWord, clauseWords}
-use Rattle.sheet.specs.CodeLaws.{AtomLimits}
-use Rattle.sheet.specs.EncodingLaws.{searchable-encodable, literal-atom}
+use Rattle.sheet.specs.PositionLaws.{position-inside, position-injective}
+use Rattle.sheet.specs.EncodingLaws.{searchable-encodable}
 use Rattle.sheet.specs.Rows.{numberOf}
 use Rattle.sheet.specs.RowLaws.{number-word}
 use Rattle.search.specs.Standing.{truth}
 use Rattle.search.specs.UnitLaws.{Consistent, truth-true, truth-false, truth-unset, by-truth}
-use Rattle.search.specs.PositionLaws.{position-inside, position-injective}
+use Rattle.search.specs.LogHolds.{plain-limits}
 use Rattle.search.specs.PlaceLaws.{getElem-in, getElem-of}
 use Rattle.search.specs.declared.Ended.{Ended}
 use Rattle.listing.specs.Lines.{rowBytes, columnBytes, codeNumbers, wordNumbers, loggedNumbers, loggedBytes, logBytes, settingBytes, settingsBytes, countBytes, listingBytes, ClausesListable}
@@ -67,12 +67,8 @@ module _ (p : Problem) (budget : ℕ) (s : State) (ended : Ended) (given : ℕ) 
     (h : Finished p budget s ended given arities starts literals numbers table values) where
   -- ── literals ──
 
-  atom-limits : (a : Atom) → a ∈ s .table → AtomLimits (p .constants) (p .arities) a
-  unfolding plain
-  atom-limits a m = literal-atom p (plain a) (h .stands .log .limited a m)
-
   code-numbers : (l : Literal) → l .atom ∈ s .table → codeNumbers arities (not (l .positive)) (atomCode (l .atom)) ≡ literalNumbers l
-  code-numbers l m = code-literal (p .constants) (p .arities) (searchable-encodable p (h .limits) .codes) arities (h .itsArities) l (atom-limits (l .atom) m)
+  code-numbers l m = code-literal (p .constants) (p .arities) (searchable-encodable p (h .limits) .codes) arities (h .itsArities) l (plain-limits p (l .atom) (h .stands .log .limited (l .atom) m))
 
   code-at : (i : ℕ) (a : Atom) → getElem? (s .table) i ≡ some a → getD table i 0 ≡ atomCode a
   code-at i a e = front-at atomCode (s .table) table (h .stands .log .codes) i a 0 e

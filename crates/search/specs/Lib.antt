@@ -3,7 +3,7 @@ pub mod Units
 pub mod Standing
 pub mod UnitLaws
 pub mod TrailWords
-pub mod PositionLaws
+pub mod LiteralWords
 pub mod Stacks
 pub mod TrailLaws
 pub mod Walk

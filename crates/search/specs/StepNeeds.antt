@@ -19,7 +19,7 @@ use Rattle.sheet.specs.CodeLaws.{index-within}
 use Rattle.search.specs.Units.{actFrom, ClausesFit}
 use Rattle.search.specs.Standing.{actWord}
 use Rattle.search.specs.TrailWords.{latestDecision, firstUnset}
-use Rattle.search.specs.PositionLaws.{word-small}
+use Rattle.search.specs.LiteralWords.{word-small}
 use Rattle.search.specs.TrailLaws.{words-small}
 use Rattle.search.specs.Walk.{codeUnder, trueUnder, headSlots, ruleVariables, fillingOf, firesUnder, firesAt, firstFrom, fillingCount, walkFrom, RulesFit, IndexFits}
 use Rattle.search.specs.RuleLaws.{rules-fit}

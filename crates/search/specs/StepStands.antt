@@ -25,7 +25,7 @@ use Rattle.sheet.specs.Encoding.{position, literalWord}
 use Rattle.search.specs.Values.{valueOf}
 use Rattle.search.specs.Standing.{truth, actWord}
 use Rattle.search.specs.TrailWords.{markOf, latestDecision, cleared, firstUnset, TrailStands}
-use Rattle.search.specs.PositionLaws.{word-plain}
+use Rattle.search.specs.LiteralWords.{word-plain}
 use Rattle.search.specs.Stacks.{length-cleared}
 use Rattle.search.specs.TrailLaws.{room-kept, set-stands, zero-backtrack-none, grown-stands}
 use Rattle.search.specs.Walk.{walkFrom}

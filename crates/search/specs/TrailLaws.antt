@@ -16,10 +16,11 @@ use Rattle.theory.specs.Tests.{by-test, by-option, apart, true-and-false, none�
 use Rattle.theory.specs.ListLaws.{at-split, in-along, Different, firstOf-in, firstOf-passes}
 use Rattle.theory.specs.WordLaws.{sameAtom-eq, sameAtom-refl, sameLiteral-eq, negate-negate, negate-atom, negate-differs, plain-atom, as-plain, as-negated}
 use Rattle.theory.specs.SearchLaws.{true-at, at-true, unset-not-true, unset-not-false, unset-of}
+use Rattle.sheet.specs.PositionLaws.{apart-atoms, position-inside, position-injective, position-append, position-behind, literal-word-append}
 use Rattle.sheet.specs.Encoding.{position, literalWord}
 use Rattle.search.specs.Standing.{truth, Valued}
 use Rattle.search.specs.TrailWords.{markOf, latestDecision, cleared, firstUnset, TrailStands}
-use Rattle.search.specs.PositionLaws.{apart-atoms, position-inside, position-injective, position-kept, position-behind, word-plain, word-negated, word-half, word-small, word-even, word-next, word-kept}
+use Rattle.search.specs.LiteralWords.{word-plain, word-negated, word-half, word-small, word-even, word-next}
 use Rattle.search.specs.Stacks.{Stacked, push, fits, pop, pop-all, top, each-place, same-words, length-cleared, cleared-latest}
 
 -- ── what a trail says of an atom ──
@@ -354,7 +355,7 @@ module _ (goals created : List Atom) (different : Different (goals ++ created)) 
   goal-row before after a q =
       let m : a ∈ goals = in-along q (at-split before after) in
       let d : Different (before ++ (a ∷ (after ++ created))) = rw append-assoc at (rw q at different) in
-      let place : position (goals ++ created) a ≡ length before = position-kept goals created a m ∙ ap (λ (l : List Atom). position l a) q ∙ position-behind before after a (not-before before (after ++ created) d) in
+      let place : position (goals ++ created) a ≡ length before = position-append goals created a m ∙ ap (λ (l : List Atom). position l a) q ∙ position-behind before after a (not-before before (after ++ created) d) in
       let e : 0 + length before ≡ position (goals ++ created) a = omega arith in
       ap (λ (i : ℕ). getD values i 0) e ∙ s .valued a (Memᴰ·append-left created m)
 
@@ -363,7 +364,7 @@ module _ (goals created : List Atom) (different : Different (goals ++ created)) 
   first-unset-some a h =
       let m = firstOf-in (λ (x : Atom). isUnset t (plain x)) goals a h in
       let e = row-some t values 0 goals goal-row a h in
-      let k = position-kept goals created a m in
+      let k = position-append goals created a m in
       (omega arith, omega (arith, position-inside goals a m))
 
   pub first-unset-none : firstOf (λ (x : Atom). isUnset t (plain x)) goals ≡ none → firstUnset values 0 (length goals) ≡ length goals
@@ -376,10 +377,10 @@ pub grown-stands : {table : List Atom} {t : Trail} {values trail marks : List �
     → (a : Atom) → (a ∈ table → ⊥) → TrailStands (table ++ (a ∷ [])) t values trail marks
 grown-stands {table} {t} {values} s g a n =
     record {
-      words = s .words ∙ same-words (entryWord table) (entryWord (table ++ (a ∷ []))) t (λ e m. sym (word-kept table (a ∷ []) (e .literal) (g e m)));
+      words = s .words ∙ same-words (entryWord table) (entryWord (table ++ (a ∷ []))) t (λ e m. sym (literal-word-append table (a ∷ []) (e .literal) (g e m)));
       whys = s .whys;
       valued = λ b m. elim (List·Memᴰ·append-cases table m) [
-        | inl k ↦ ap (λ (i : ℕ). getD values i 0) (position-kept table (a ∷ []) b k) ∙ s .valued b k
+        | inl k ↦ ap (λ (i : ℕ). getD values i 0) (position-append table (a ∷ []) b k) ∙ s .valued b k
         | inr k ↦ new-value b (List·Memᴰ·eq-of-singleton k)
       ];
       outside = λ i h. s .outside i (omega (arith, length-append table (a ∷ [])));

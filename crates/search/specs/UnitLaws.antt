@@ -1,10 +1,10 @@
 -- Step A over the arrays is step A of the definitions: words for literals, values for the trail, clause by clause. Assumes nothing.
-use Prim.Native.Nat.{ℕ, zero, suc, _+_, _-_, _*_, _/_, _%_, _≤_, _<_}
+use Prim.Native.Nat.{ℕ, suc, _+_, _-_, _*_, _/_, _%_, _≤_, _<_}
 use mathlib.Core.Path.{_≡_, refl, sym, _∙_, ap, subst}
 use mathlib.Core.Logic.{_⊎_, inl, inr}
 use mathlib.Core.Bool.{Bool, true, false}
 use mathlib.Core.Option.{Option, none, some}
-use mathlib.Core.List.{List, [], _∷_, _++_, map, append-nil, append-assoc, List·Memᴰ·head, List·Memᴰ·tail, List·Memᴰ·cases-cons, List·Memᴰ·append-cases, List·Memᴰ·eq-of-singleton, List·Memᴰ·not-nil, Memᴰ·append-left, Memᴰ·append-right, Memᴰ·cast, Memᴰ·map}
+use mathlib.Core.List.{List, [], _∷_, _++_, map, append-nil, append-assoc, List·Memᴰ·head, List·Memᴰ·tail, List·Memᴰ·append-cases, List·Memᴰ·eq-of-singleton, List·Memᴰ·not-nil, Memᴰ·append-left, Memᴰ·append-right, Memᴰ·cast, Memᴰ·map}
 use native.Mathlib.Omega.{arith}
 use lib.Dec.{eqb, leb, ltb}
 use lib.ListN.{length, getD, take, drop, getElem?, length-take}
@@ -14,12 +14,14 @@ use Rattle.definitions.specs.Lists.{_∈_, all, firstSome}
 use Rattle.definitions.specs.Words.{Atom, Literal, negate, plain, sameAtom, Clause, goalAtoms}
 use Rattle.definitions.specs.Instances.{Task}
 use Rattle.definitions.specs.Search.{Trail, isTrue, isFalse, isUnset, Logged, clauseOf, State, Act, conflict, force, notFalse, actOn, isGoal, goalAct, loggedAct, nextAct}
-use Rattle.theory.specs.Tests.{by-test, by-option, apart, true-and-false, none≢some, some-injective}
+use Rattle.theory.specs.Tests.{by-test, by-option, apart, true-and-false}
 use Rattle.theory.specs.ListLaws.{all-each}
-use Rattle.theory.specs.WordLaws.{sameAtom-eq, sameAtom-refl, literal-ext, negate-atom, as-plain, as-negated, goal-of}
+use Rattle.theory.specs.WordLaws.{sameAtom-eq, literal-ext, negate-atom, as-plain, as-negated, goal-of}
 use Rattle.theory.specs.SearchLaws.{unset-not-true, unset-not-false, unset-of, negated-false, clause-head, Alone, conflict-false, force-unit, false-conflict, unit-force, isGoal-in, in-isGoal, mayLogged}
+use Rattle.sheet.specs.PositionLaws.{position-inside, position-injective, position-append}
 use Rattle.sheet.specs.Rows.{wordOf}
 use Rattle.sheet.specs.Encoding.{position, literalWord, clauseWords}
+use Rattle.search.specs.PlaceLaws.{getElem-in}
 use Rattle.search.specs.Values.{opposite, valueOf, unsetToo, join, seenFrom, look}
 use Rattle.search.specs.Units.{clauseAt, maySet, actAt, actFrom}
 use Rattle.search.specs.Standing.{truth, Valued, ClausesStand, actWord}
@@ -29,38 +31,15 @@ use Rattle.search.specs.declared.Act.the-variants.{Nothing}
 
 -- ── positions and words ──
 
--- atoms of the table at one position are one
-pub position-injective : (table : List Atom) (a b : Atom) → a ∈ table → b ∈ table → position table a ≡ position table b → a ≡ b
-unfolding position
-position-injective [] a b m n e = absurd (List·Memᴰ·not-nil m)
-position-injective (x ∷ xs) a b m n e =
-    by-test (sameAtom x a)
-    (λ p. by-test (sameAtom x b)
-    (λ q. sym (sameAtom-eq x a p) ∙ sameAtom-eq x b q)
-    (λ q. apart (cc)))
-    (λ p. by-test (sameAtom x b)
-    (λ q. apart (cc))
-    (λ q. position-injective xs a b (later a p m) (later b q n) (cc)))
-  where
-    later : (c : Atom) → sameAtom x c ≡ false → c ∈ x ∷ xs → c ∈ xs
-    later c p m =
-        elim (List·Memᴰ·cases-cons m) [ inl e ↦ true-and-false (rw e (sameAtom-refl x)) p | inr n ↦ n ]
-
 -- the atoms of the first part stand below its length, and all others behind
-pub position-below : (goals created : List Atom) (a : Atom) → a ∈ goals → position (goals ++ created) a < length goals
-unfolding position
-position-below (x ∷ xs) created a (List·Memᴰ·head e) =
-    let q : sameAtom x a ≡ true = rw e (sameAtom-refl x) in
-    rw (q, position) (omega arith)
-position-below (x ∷ xs) created a (List·Memᴰ·tail m) =
-    let h = position-below xs created a m in
-    by-test (sameAtom x a) (λ q. rw (q, position) (omega arith)) (λ q. rw (q, position) (omega arith))
+position-below : (goals created : List Atom) (a : Atom) → a ∈ goals → position (goals ++ created) a < length goals
+position-below goals created a m = rw (position-append goals created a m) (position-inside goals a m)
 
-pub position-behind : (goals created : List Atom) (a : Atom) → (a ∈ goals → ⊥) → length goals ≤ position (goals ++ created) a
+position-past : (goals created : List Atom) (a : Atom) → (a ∈ goals → ⊥) → length goals ≤ position (goals ++ created) a
 unfolding position
-position-behind [] created a n = omega arith
-position-behind (x ∷ xs) created a n =
-    let h = position-behind xs created a (λ m. n (List·Memᴰ·tail m)) in
+position-past [] created a n = omega arith
+position-past (x ∷ xs) created a n =
+    let h = position-past xs created a (λ m. n (List·Memᴰ·tail m)) in
     by-test (sameAtom x a) (λ q. absurd (n (List·Memᴰ·head (sym (sameAtom-eq x a q))))) (λ q. rw (q, position) (omega arith))
 
 -- the parts of a word: the position, and the sign
@@ -96,7 +75,7 @@ goal-word k table created l e =
     by-test (isGoal k l)
     (λ g. let h : position table (l .atom) < length goals = rw e (position-below goals created (l .atom) (isGoal-in k l g)) in
     lt-ltb (literalWord table l) (2 * length goals) (omega (arith, word-near table l)) ∙ sym g)
-    (λ g. let h : length goals ≤ position table (l .atom) = rw e (position-behind goals created (l .atom) (λ m. true-and-false (in-isGoal k l m) g)) in
+    (λ g. let h : length goals ≤ position table (l .atom) = rw e (position-past goals created (l .atom) (λ m. true-and-false (in-isGoal k l m) g)) in
     le-ltb (literalWord table l) (2 * length goals) (omega (arith, word-near table l)) ∙ sym g)
   where
     goals : List Atom
@@ -401,17 +380,6 @@ module _ {A : Type 0} (values starts literals heads : List ℕ) (given goals : �
       found here conflict q = cc
       found here (force l) q = cc
 
--- where an element of a list stands
-pub at-below : {A : Type 0} (xs : List A) (n : ℕ) (x : A) → getElem? xs n ≡ some x → n < length xs
-at-below [] n x e = none≢some e
-at-below (y ∷ ys) zero x e = omega arith
-at-below (y ∷ ys) (suc n) x e = omega (arith, at-below ys n x e)
-
-pub at-in : {A : Type 0} (xs : List A) (n : ℕ) (x : A) → getElem? xs n ≡ some x → x ∈ xs
-at-in [] n x e = none≢some e
-at-in (y ∷ ys) zero x e = List·Memᴰ·head (sym (some-injective e))
-at-in (y ∷ ys) (suc n) x e = List·Memᴰ·tail (at-in ys n x e)
-
 -- a part has no words but its own
 take-part : (ws : List ℕ) (h n : ℕ) → n ≤ h → take h (take n ws) ≡ take n ws
 take-part ws h n l = take-all h (take n ws) (omega (arith, length-take n ws))
@@ -447,13 +415,13 @@ module _ (k : Task) (s : State) (created : List Atom) (values starts literals he
   unfolding goalAct
   goal-stands n c e =
       act-of (s .table) (s .trail) values consistent valued starts literals heads given goals n (isGoal k) c
-      (λ l m. rw split (Memᴰ·append-left created (goal-of (k .clauses) c l (at-in (k .clauses) n c e) m)))
+      (λ l m. rw split (Memᴰ·append-left created (goal-of (k .clauses) c l (getElem-in (k .clauses) n c e .1) m)))
       (stand .goal n c e)
-      (λ l m u. goal-sets n (at-below (k .clauses) n c e) l)
+      (λ l m u. goal-sets n (getElem-in (k .clauses) n c e .0) l)
 
   module _ (n : ℕ) (g : Logged) (e : getElem? (s .log) n ≡ some g) where
     its-atoms : (l : Literal) → l ∈ clauseOf g → l .atom ∈ s .table
-    its-atoms = entered g (at-in (s .log) n g e)
+    its-atoms = entered g (getElem-in (s .log) n g e .1)
 
     -- the first words of the clause are all false just where the heads are all true
     heads-stand : allFalse values (take (getD heads n 0) (clauseAt starts literals (given + n))) ≡ all (isTrue (s .trail)) (g .instance .heads)

@@ -50,7 +50,8 @@ module _ (constants : ℕ) (arities : List ℕ) (limits : CodeLimits constants a
   pub arity-at-most : (n : ℕ) → getD arities n 0 ≤ 3
   arity-at-most n = getD-each (λ k. k ≤ 3) arities n 0 (omega arith) (limits .eachArity)
 
-  argument-at : (a : Atom) → AtomLimits constants arities a → (i : ℕ) → (1 ≤ getD (a .args) i 1) × (getD (a .args) i 1 ≤ 32)
+  -- a constant is from 1 to 32, and so is the 1 that stands for one the atom lacks
+  pub argument-at : (a : Atom) → AtomLimits constants arities a → (i : ℕ) → (1 ≤ getD (a .args) i 1) × (getD (a .args) i 1 ≤ 32)
   argument-at a h i =
       getD-each (λ c. (1 ≤ c) × (c ≤ 32)) (a .args) i 1 (omega arith) (λ c m. omega (arith, h .inRange c m, limits .few))
 

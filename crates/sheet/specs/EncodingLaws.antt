@@ -23,7 +23,7 @@ use Rattle.sheet.specs.EnteringLaws.{literal-new, literal-known}
 use Rattle.sheet.specs.Encoding.{atomCode, position, literalWord, clauseWords, startsFrom, indexFrom, emptyIndex, Arrays, arrays, hold}
 use Rattle.sheet.specs.CodeLaws.{CodeLimits, AtomLimits, index-within, index-known, index-new}
 use Rattle.theory.specs.TableLaws.{enterAll, by-member, enter-known, enter-fresh, enter-different, enter-each, atomsOf, goal-atoms-more, goal-atoms-different, joined-more, enter-all-behind}
-use Rattle.sheet.specs.PositionLaws.{position-last, literal-word-append, all-words-append}
+use Rattle.sheet.specs.PositionLaws.{position-behind, literal-word-append, all-words-append}
 use Rattle.sheet.specs.ClauseSlotLaws.{word-number, slot-code, slot-sign, SlotsFrom, first-slot, later-slots, slots-limits}
 
 -- ── one entry more ──
@@ -76,7 +76,7 @@ module _ (constants : ℕ) (arities : List ℕ) (limits : CodeLimits constants a
       (λ out.
       let gs′ = gs ++ (a ∷ []) in
       let word : 2 * length gs + wordOf negative 0 ≡ wordOf negative (position gs′ a) =
-      omega (arith, position-last gs a out, word-number negative (position gs′ a)) in
+      omega (arith, position-behind gs [] a out, word-number negative (position gs′ a)) in
       let codes : set (sets table 0 (map atomCode gs)) (length gs) (atomCode a) ≡ sets table 0 (map atomCode gs′) =
       rw (map-append atomCode gs (a ∷ [])) (sets-more table (map atomCode gs) (atomCode a ∷ []) (length gs) (sym (length-map gs atomCode))) in
       let places : 0 + length gs + 1 ≡ length gs + 1 = omega arith in

@@ -1,8 +1,11 @@
--- Positions in the table: atoms that enter behind change no position, so the words of clauses stay. Assumes nothing.
-use mathlib.Core.Path.{_≡_, refl, sym, ap}
+-- Where atoms stand in the table: below its length, each at a position of its own, and atoms that enter behind change none, so the
+-- words of clauses stay. Assumes nothing.
+use Prim.Native.Nat.{suc, _<_}
+use mathlib.Core.Path.{_≡_, refl, sym, _∙_, ap}
 use mathlib.Core.Logic.{inl, inr}
-use mathlib.Core.Bool.{not}
+use mathlib.Core.Bool.{false, not}
 use mathlib.Core.List.{List, [], _∷_, _++_, List·Memᴰ·head, List·Memᴰ·tail, List·Memᴰ·cases-cons, List·Memᴰ·not-nil}
+use native.Mathlib.Omega.{arith}
 use lib.ListN.{length}
 use Rattle.definitions.specs.Lists.{_∈_, joined}
 use Rattle.definitions.specs.Words.{Atom, Literal, sameAtom, Clause}
@@ -11,25 +14,48 @@ use Rattle.theory.specs.WordLaws.{sameAtom-eq, sameAtom-refl}
 use Rattle.sheet.specs.Rows.{wordOf}
 use Rattle.sheet.specs.Encoding.{position, literalWord, clauseWords}
 
--- atoms that enter behind change no position
-pub position-append : (gs more : List Atom) (a : Atom) → a ∈ gs → position (gs ++ more) a ≡ position gs a
+pub apart-atoms : {a b : Atom} → sameAtom b a ≡ false → b ≡ a → ⊥
+apart-atoms {a} {b} h q = true-and-false (rw q (sameAtom-refl a)) h
+
+-- an atom that is not the first stands behind it
+later : {a b : Atom} {bs : List Atom} → sameAtom b a ≡ false → a ∈ b ∷ bs → a ∈ bs
+later h m = elim (List·Memᴰ·cases-cons m) [ inl q ↦ absurd (apart-atoms h (sym q)) | inr n ↦ n ]
+
+pub position-inside : (table : List Atom) (a : Atom) → a ∈ table → position table a < length table
+unfolding position
+position-inside [] a m = absurd (List·Memᴰ·not-nil m)
+position-inside (b ∷ bs) a m =
+    by-test (sameAtom b a)
+    (λ e. rw (e, position) (omega arith))
+    (λ e. let h = position-inside bs a (later e m) in rw (e, position) (omega arith))
+
+-- two atoms of the table at one position are one
+pub position-injective : (table : List Atom) (a b : Atom) → a ∈ table → b ∈ table → position table a ≡ position table b → a ≡ b
+unfolding position
+position-injective [] a b m n q = absurd (List·Memᴰ·not-nil m)
+position-injective (c ∷ cs) a b m n q =
+    by-test (sameAtom c a)
+    (λ e. by-test (sameAtom c b)
+    (λ f. sym (sameAtom-eq c a e) ∙ sameAtom-eq c b f)
+    (λ f. let z : 0 ≡ suc (position cs b) = rw (e, f, position) at q in let y : ⊥ = omega arith in absurd y))
+    (λ e. by-test (sameAtom c b)
+    (λ f. let z : suc (position cs a) ≡ 0 = rw (e, f, position) at q in let y : ⊥ = omega arith in absurd y)
+    (λ f. let z : suc (position cs a) ≡ suc (position cs b) = rw (e, f, position) at q in position-injective cs a b (later e m) (later f n) (omega arith)))
+
+-- a table that grows keeps the positions
+pub position-append : (table more : List Atom) (a : Atom) → a ∈ table → position (table ++ more) a ≡ position table a
 unfolding position
 position-append [] more a m = absurd (List·Memᴰ·not-nil m)
-position-append (g ∷ gs) more a m =
-    by-test (sameAtom g a)
-    (λ e. cc)
-    (λ e. elim (List·Memᴰ·cases-cons m) [
-      | inl q ↦ true-and-false (rw q (sameAtom-refl g)) e
-      | inr k ↦ cc (position-append gs more a k)
-    ])
+position-append (b ∷ bs) more a m = by-test (sameAtom b a) (λ e. cc) (λ e. cc (position-append bs more a (later e m)))
 
-pub position-last : (gs : List Atom) (a : Atom) → (a ∈ gs → ⊥) → position (gs ++ (a ∷ [])) a ≡ length gs
+-- an atom stands behind those before it
+pub position-behind : (before after : List Atom) (a : Atom) → (a ∈ before → ⊥) → position (before ++ (a ∷ after)) a ≡ length before
 unfolding position
-position-last [] a out = cc (sameAtom-refl a)
-position-last (g ∷ gs) a out =
-    by-test (sameAtom g a)
-    (λ e. absurd (out (List·Memᴰ·head (sym (sameAtom-eq g a e)))))
-    (λ e. cc (position-last gs a (λ m. out (List·Memᴰ·tail m))))
+position-behind [] after a n = cc (sameAtom-refl a)
+position-behind (b ∷ bs) after a n =
+    by-test (sameAtom b a)
+    (λ e. absurd (n (List·Memᴰ·head (sym (sameAtom-eq b a e)))))
+    (λ e. cc (position-behind bs after a (λ m. n (List·Memᴰ·tail m))))
 
 pub literal-word-append : (gs more : List Atom) (l : Literal) → l .atom ∈ gs → literalWord (gs ++ more) l ≡ literalWord gs l
 unfolding literalWord
