@@ -22,3 +22,4 @@ pub mod ListingLaws
 pub mod Sizes
 pub mod Demand3
 pub mod Theorems
+pub mod Quiet
