@@ -1,14 +1,8 @@
-pub mod FillingLaws
-pub mod FiringLaws
 pub mod LogClauses
 pub mod LogFillings
 pub mod LogTurns
-pub mod RuleLaws
-pub mod ScanLaws
 pub mod SearchTurns
-pub mod SkipLaws
-pub mod SlotLaws
 pub mod StepLaws
 pub mod TrailTurns
 pub mod UnitTurns
-pub mod ValueTurns
+pub mod ScanTurns

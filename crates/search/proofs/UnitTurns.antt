@@ -8,14 +8,15 @@ use lib.Dec.{eqb}
 use lib.ListN.{length, getD, take, drop}
 use borrow.Author.Tests.{eq-eqb, ne-eqb, lt-ltb, le-ltb}
 use Rattle.definitions.specs.Lists.{all}
-use Rattle.search.specs.Values.{valueOf, look}
+use Rattle.walk.specs.Values.{valueOf}
+use Rattle.search.specs.Scan.{look}
 use Rattle.search.specs.Units.{clauseAt, maySet, actAt, actFrom, ClausesFit}
 use Rattle.search.specs.UnitLaws.{allFalse}
 use Rattle.search.specs.declared.Seen.{Seen}
 use Rattle.search.specs.declared.Seen.the-variants.{AllFalse, One, Open}
 use Rattle.search.specs.declared.Act.{Act}
 use Rattle.search.specs.declared.Act.the-variants.{Conflict, Force, Nothing}
-use Rattle.search.proofs.ValueTurns.{part-cons, part-nil}
+use Rattle.search.proofs.ScanTurns.{part-cons, part-nil}
 
 -- ── the loop over words ──
 

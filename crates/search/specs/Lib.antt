@@ -1,4 +1,4 @@
-pub mod Values
+pub mod Scan
 pub mod Units
 pub mod Standing
 pub mod UnitLaws
@@ -6,9 +6,6 @@ pub mod TrailWords
 pub mod LiteralWords
 pub mod Stacks
 pub mod TrailLaws
-pub mod Walk
-pub mod Skips
-pub mod WalkLaws
 pub mod PlaceLaws
 pub mod FillingLaws
 pub mod RuleLaws
@@ -29,4 +26,9 @@ pub mod StepStands
 pub mod MachineStart
 pub mod Measure
 pub mod SearchStands
+pub mod Following
+pub mod FollowingLaws
+pub mod MaskStands
+pub mod Upkeep
+pub mod Stepping
 pub mod Loading

@@ -17,6 +17,8 @@ use Rattle.sheet.specs.declared.Sizes.{Sizes}
 use Rattle.search.specs.Machine.{Machine, machine, Stands, RulesStand, NumbersStand, Running, EndStands, Lengths, Loaded}
 use Rattle.search.specs.MachineStart.{rules-stand, machine-start}
 use Rattle.search.specs.SearchStands.{search-stands}
+use Rattle.search.specs.Upkeep.{upkeepOf}
+use Rattle.search.specs.Stepping.{Stepping, start-follow}
 use Rattle.search.specs.declared.Run.{Run}
 use Rattle.search.specs.declared.Ended.{Ended}
 
@@ -69,7 +71,7 @@ module _ (p : Problem) (sizes : Sizes) (budget : ℕ) (rules starts literals hea
       rw (loaded .counts, loaded .itsStarts, loaded .itsLiterals, loaded .itsTable, loaded .itsIndex)
       (machine-start p (loaded .limits) budget (loaded .before) (loaded .empty) before-starts before-literals before-table heads numbers values trail marks (lengths .ofHeads) (lengths .ofNumbers) (loaded .unset) (lengths .ofTrail) (lengths .ofMarks))
 
-  pub loaded-running : budget < 2 ^ 32 → Running budget rules (machine starts literals heads numbers table index values trail marks) (startRun sizes) (sizes .constants) (sizes .rules) (sizes .clauses) (sizes .atoms)
+  loaded-running : budget < 2 ^ 32 → Running budget rules (machine starts literals heads numbers table index values trail marks) (startRun sizes) (sizes .constants) (sizes .rules) (sizes .clauses) (sizes .atoms)
   loaded-running small =
       record {
         problem = p;
@@ -82,6 +84,12 @@ module _ (p : Problem) (sizes : Sizes) (budget : ℕ) (rules starts literals hea
         itsClauses = loaded-numbers .itsClauses;
         itsGoals = loaded-numbers .itsGoals;
       }
+
+  -- with masks that hold nothing
+  pub loaded-stepping : budget < 2 ^ 32
+      → Stepping budget rules (machine starts literals heads numbers table index values trail marks) (startRun sizes) (sizes .constants) (sizes .rules) (sizes .clauses) (sizes .atoms) (upkeepOf (replicate 104544 0) (replicate 3072 0) (replicate 3072 0) (replicate 2 0))
+  unfolding loaded-running
+  loaded-stepping small = record { running = loaded-running small; follow = start-follow p (loaded .limits) }
 
   -- where the loop came to an end, the search did
   pub loaded-ends : (r : Ended) (m : Machine)

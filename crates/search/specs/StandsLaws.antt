@@ -20,13 +20,13 @@ use Rattle.theory.specs.Choices.{choiceWorld, inv-act}
 use Rattle.theory.specs.Unknown.{consistent}
 use Rattle.theory.specs.Ends.{Fits, step-fits}
 use Rattle.sheet.specs.Encoding.{position, literalWord}
-use Rattle.search.specs.Values.{valueOf}
+use Rattle.walk.specs.Values.{valueOf}
 use Rattle.search.specs.Units.{actFrom}
 use Rattle.search.specs.Standing.{truth, actWord}
 use Rattle.search.specs.UnitLaws.{Consistent, value-truth, act-stands}
 use Rattle.search.specs.TrailWords.{latestDecision, firstUnset, TrailStands}
 use Rattle.search.specs.TrailLaws.{DecidedTrue, backtrack-none-zero, Backtracked, backtrack-stands, first-unset-some, first-unset-none}
-use Rattle.search.specs.Walk.{walkFrom}
+use Rattle.walk.specs.Walk.{walkFrom}
 use Rattle.search.specs.WalkStands.{WalkAs, walk-stands}
 use Rattle.search.specs.LogHolds.{holds-index}
 use Rattle.search.specs.Machine.{Machine, logIn, Stands, RulesStand}

@@ -21,7 +21,7 @@ use Rattle.search.specs.Standing.{actWord}
 use Rattle.search.specs.TrailWords.{latestDecision, firstUnset}
 use Rattle.search.specs.LiteralWords.{word-small}
 use Rattle.search.specs.TrailLaws.{words-small}
-use Rattle.search.specs.Walk.{codeUnder, trueUnder, headSlots, ruleVariables, fillingOf, firesUnder, firesAt, firstFrom, fillingCount, walkFrom, RulesFit, IndexFits}
+use Rattle.walk.specs.Walk.{codeUnder, trueUnder, headSlots, ruleVariables, fillingOf, firesUnder, firesAt, firstFrom, fillingCount, walkFrom, RulesFit, IndexFits}
 use Rattle.search.specs.RuleLaws.{rules-fit}
 use Rattle.search.specs.Logging.{LogFits}
 use Rattle.search.specs.LogLaws.{found-below, fewer-fit}
@@ -29,7 +29,7 @@ use Rattle.search.specs.Machine.{Machine, logIn, Stands, Running}
 use Rattle.search.specs.StandsLaws.{room-for, act-as, unit-unset, back-none, back-some, goal-unset, goal-none, goal-some}
 use Rattle.search.specs.declared.Run.{Run}
 use Rattle.search.specs.declared.Act.the-variants.{Force, Nothing}
-use Rattle.search.specs.declared.Found.the-variants.{Instance}
+use Rattle.walk.specs.declared.Found.the-variants.{Instance}
 
 -- a word is forced where a literal is
 force-of : (table : List Atom) (o : Option Act) (w : ℕ) → actWord table o ≡ Force w → (l : Literal) × (o ≡ some (force l)) × (w ≡ literalWord table l)
@@ -112,8 +112,8 @@ module _ (budget : ℕ) (rules : List ℕ) (m : Machine) (run : Run) (constants 
 
   -- the rule that the walk finds is one of the rules
 
-  pub walk-fits : RulesFit rules constants count × IndexFits (m .index) 256
-  walk-fits = (
+  pub rules-and-index : RulesFit rules constants count × IndexFits (m .index) 256
+  rules-and-index = (
     rw (running .itsConstants, running .itsRules) (rules-fit p (running .rulesStand .limits) rules (running .rulesStand .words)),
     index-small,
   )
@@ -121,7 +121,7 @@ module _ (budget : ℕ) (rules : List ℕ) (m : Machine) (run : Run) (constants 
   pub log-fits : (r f : ℕ) → actFrom (m .values) (m .starts) (m .literals) (m .heads) given goals 0 (run .clauses) ≡ Nothing → walkFrom (m .values) (m .index) rules constants 0 count ≡ Instance r f
       → RulesFit rules constants (r + 1) × (f < fillingCount rules constants r) × LogFits rules (fillingOf constants (ruleVariables rules r) f) r given (logIn m run)
   log-fits r f e g = (
-    fewer-fit rules constants count (r + 1) (walk-fits .0) (let b = found-below (m .values) (m .index) rules constants 0 count r f g .0 in omega arith),
+    fewer-fit rules constants count (r + 1) (rules-and-index .0) (let b = found-below (m .values) (m .index) rules constants 0 count r f g .0 in omega arith),
     found-below (m .values) (m .index) rules constants 0 count r f g .1,
     record {
       goals = omega (arith, running .itsClauses, running .rulesStand .limits .clauses);

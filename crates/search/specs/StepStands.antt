@@ -22,13 +22,13 @@ use Rattle.theory.specs.Counts.{step-counts}
 use Rattle.theory.specs.Invariants.{step-sound}
 use Rattle.sheet.specs.Slots.{ruleWords}
 use Rattle.sheet.specs.Encoding.{position, literalWord}
-use Rattle.search.specs.Values.{valueOf}
+use Rattle.walk.specs.Values.{valueOf}
 use Rattle.search.specs.Standing.{truth, actWord}
 use Rattle.search.specs.TrailWords.{markOf, latestDecision, cleared, firstUnset, TrailStands}
 use Rattle.search.specs.LiteralWords.{word-plain}
 use Rattle.search.specs.Stacks.{length-cleared}
 use Rattle.search.specs.TrailLaws.{room-kept, set-stands, zero-backtrack-none, grown-stands}
-use Rattle.search.specs.Walk.{walkFrom}
+use Rattle.walk.specs.Walk.{walkFrom}
 use Rattle.search.specs.RuleLaws.{rule-variables}
 use Rattle.search.specs.WalkStands.{WalkAs}
 use Rattle.search.specs.Logging.{Log, logOf}
@@ -39,8 +39,8 @@ use Rattle.search.specs.MachineSteps.{Stepped, stepped, setAt, undoFrom,
 use Rattle.search.specs.StandsLaws.{literal-value, true-known, room-for, act-as, unit-unset, back-none, back-some, walk-as, goal-unset, goal-none, goal-some}
 use Rattle.search.specs.declared.Run.{Run}
 use Rattle.search.specs.declared.Next.the-variants.{More, Done}
-use Rattle.search.specs.declared.Found.{Found}
-use Rattle.search.specs.declared.Found.the-variants.{Instance, Nowhere}
+use Rattle.walk.specs.declared.Found.{Found}
+use Rattle.walk.specs.declared.Found.the-variants.{Instance, Nowhere}
 
 -- ── what a step of the machine comes to ──
 

@@ -189,15 +189,15 @@ by-why flipped d f g = f refl
 by-why forced d f g = g refl
 
 -- the latest decision, what was set since, and what was set before
-record Latest (t u : Trail) : Type 0 where
-  since : Trail
-  entry : Entry
-  before : Trail
-  split : t ≡ since ++ (entry ∷ before)
-  is : entry .why ≡ decided
-  after : u ≡ record { literal = negate (entry .literal); why = flipped } ∷ before
+pub record Latest (t u : Trail) : Type 0 where
+  pub since : Trail
+  pub entry : Entry
+  pub before : Trail
+  pub split : t ≡ since ++ (entry ∷ before)
+  pub is : entry .why ≡ decided
+  pub after : u ≡ record { literal = negate (entry .literal); why = flipped } ∷ before
 
-find-latest : (t u : Trail) → backtrack t ≡ some u → Latest t u
+pub find-latest : (t u : Trail) → backtrack t ≡ some u → Latest t u
 unfolding backtrack
 find-latest [] u h = none≢some h
 find-latest (e ∷ t) u h =

@@ -22,7 +22,8 @@ use Rattle.sheet.specs.PositionLaws.{position-inside, position-injective, posit
 use Rattle.sheet.specs.Rows.{wordOf}
 use Rattle.sheet.specs.Encoding.{position, literalWord, clauseWords}
 use Rattle.search.specs.PlaceLaws.{getElem-in}
-use Rattle.search.specs.Values.{opposite, valueOf, unsetToo, join, seenFrom, look}
+use Rattle.walk.specs.Values.{opposite, valueOf}
+use Rattle.search.specs.Scan.{unsetToo, join, seenFrom, look}
 use Rattle.search.specs.Units.{clauseAt, maySet, actAt, actFrom}
 use Rattle.search.specs.Standing.{truth, Valued, ClausesStand, actWord}
 use Rattle.search.specs.declared.Seen.{Seen}

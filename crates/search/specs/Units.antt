@@ -5,7 +5,8 @@ use mathlib.Core.List.{List}
 use lib.Dec.{eqb, ltb}
 use lib.ListN.{getD, take, drop}
 use Rattle.definitions.specs.Lists.{all}
-use Rattle.search.specs.Values.{valueOf, look}
+use Rattle.walk.specs.Values.{valueOf}
+use Rattle.search.specs.Scan.{look}
 use Rattle.search.specs.declared.Seen.the-variants.{AllFalse, One, Open}
 use Rattle.search.specs.declared.Act.{Act}
 use Rattle.search.specs.declared.Act.the-variants.{Conflict, Force, Nothing}

@@ -3,7 +3,7 @@ ghost use mathlib.Core.Path.{_≡_};
 ghost use Prim.Native.Nat.{ℕ, _+_, _-_, _/_, _%_, _≤_, _<_};
 ghost use lib.ListN.{length, getD, set, take, drop};
 ghost use Rattle.search.specs.TrailWords.{latestDecision, cleared, firstUnset};
-use crate::values;
+use walk::values;
 
 // Sets a literal, with why it is set, behind the first n entries.
 pub fn set_literal(

@@ -4,11 +4,12 @@ ghost use Prim.Native.Nat.{ℕ, _+_, _≤_, _<_};
 ghost use lib.Dec.{eqb};
 ghost use lib.ListN.{getD, take, drop};
 ghost use Rattle.definitions.specs.Lists.{all};
-ghost use Rattle.search.specs.Values.{valueOf};
+ghost use Rattle.walk.specs.Values.{valueOf};
 ghost use Rattle.search.specs.Units.{maySet, actAt, actFrom, ClausesFit};
 use crate::Act;
 use crate::Seen;
-use crate::values;
+use crate::scan;
+use walk::values;
 
 // Whether so many words from a place on are all false.
 fn all_false(values: &[u8; 256], literals: &[u16; 2568], from: usize, count: usize) -> bool
@@ -77,7 +78,7 @@ fn act_at(
     let next = c + 1;
     let from = values::wide(starts[c]);
     let end = values::wide(starts[next]);
-    match values::look_at(values, literals, from, end) {
+    match scan::look_at(values, literals, from, end) {
         Seen::AllFalse => Act::Conflict,
         Seen::One(w) => {
             if may_set(values, starts, literals, heads, given, goals, c, w) {

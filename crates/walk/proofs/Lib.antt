@@ -1,0 +1,8 @@
+pub mod CandidateTurns
+pub mod FillingLaws
+pub mod FiringLaws
+pub mod MaskTurns
+pub mod SlotLaws
+pub mod ValueLaws
+pub mod VariableLaws
+pub mod WalkTurns

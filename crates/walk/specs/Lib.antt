@@ -1,0 +1,16 @@
+pub mod Values
+pub mod Walk
+pub mod Skips
+pub mod WalkLaws
+pub mod RuleSlots
+pub mod Masks
+pub mod MaskLaws
+pub mod Candidates
+pub mod RuleBits
+pub mod Nested
+pub mod Odometer
+pub mod MaskedWalk
+pub mod Pruned
+pub mod Numbered
+pub mod CandidateLaws
+pub mod MaskedWalkLaws
