@@ -10,8 +10,8 @@ use Rattle.definitions.specs.Lists.{upFrom}
 use Rattle.definitions.specs.Words.{Atom, Literal}
 use Rattle.definitions.specs.Sheet.{plus}
 use Rattle.definitions.specs.Listing.{literalNumbers}
-use Rattle.sheet.specs.Encoding.{place, atomCode}
-use Rattle.sheet.specs.CodeLaws.{CodeLimits, AtomLimits, arity-at-most, argument-at}
+use Rattle.encoding.specs.Encoding.{place, atomCode}
+use Rattle.encoding.specs.CodeLaws.{CodeLimits, AtomLimits, arity-at-most, argument-at}
 use Rattle.search.specs.PlaceLaws.{getElem-in}
 use Rattle.listing.specs.Lines.{codeSymbol, codeConstant, constantNumber, codeNumbers}
 use Rattle.listing.specs.JoinedLaws.{front-at, map-places}

@@ -19,11 +19,11 @@ use Rattle.theory.specs.Tests.{by-test, none≢some, some-injective}
 use Rattle.theory.specs.ListLaws.{Different, joined-append}
 use Rattle.theory.specs.WordLaws.{sameAtom-eq, sameAtom-refl}
 use Rattle.theory.specs.Unknown.{consistent}
-use Rattle.sheet.specs.Encoding.{atomCode, position, literalWord, clauseWords}
-use Rattle.sheet.specs.PositionLaws.{position-inside, position-injective}
-use Rattle.sheet.specs.EncodingLaws.{searchable-encodable}
-use Rattle.sheet.specs.Rows.{numberOf}
-use Rattle.sheet.specs.RowLaws.{number-word}
+use Rattle.encoding.specs.Encoding.{atomCode, position, literalWord, clauseWords}
+use Rattle.encoding.specs.PositionLaws.{position-inside, position-injective}
+use Rattle.encoding.specs.HoldLaws.{searchable-encodable}
+use Rattle.encoding.specs.Signs.{numberOf}
+use Rattle.encoding.specs.Signs.{number-word}
 use Rattle.search.specs.Standing.{truth}
 use Rattle.search.specs.UnitLaws.{Consistent, truth-true, truth-false, truth-unset, by-truth}
 use Rattle.search.specs.LogHolds.{plain-limits}

@@ -7,9 +7,9 @@ use native.Mathlib.Omega.{arith}
 use lib.ListN.{length}
 use Rattle.definitions.specs.Lists.{_∈_}
 use Rattle.definitions.specs.Words.{Atom, Literal, negate, plain}
-use Rattle.sheet.specs.Rows.{wordOf}
-use Rattle.sheet.specs.Encoding.{position, literalWord}
-use Rattle.sheet.specs.PositionLaws.{position-inside}
+use Rattle.encoding.specs.Signs.{wordOf}
+use Rattle.encoding.specs.Encoding.{position, literalWord}
+use Rattle.encoding.specs.PositionLaws.{position-inside}
 
 module _ (table : List Atom) where
   pub word-plain : (a : Atom) → literalWord table (plain a) ≡ 2 * position table a

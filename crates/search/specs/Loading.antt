@@ -11,9 +11,9 @@ use Rattle.definitions.specs.Search.{State, start, run, search}
 use Rattle.definitions.specs.Questions.{read, accepted}
 use Rattle.theory.specs.Ends.{measure}
 use Rattle.theory.specs.Limits.{limits-searchable, accepted-limits}
-use Rattle.sheet.specs.Slots.{ruleWords}
-use Rattle.sheet.specs.Encoding.{atomCode, clauseWords, startsFrom, Arrays, hold, sizesOf, emptyIndex}
-use Rattle.sheet.specs.declared.Sizes.{Sizes}
+use Rattle.encoding.specs.Slots.{ruleWords}
+use Rattle.encoding.specs.Encoding.{atomCode, clauseWords, startsFrom, Arrays, hold, sizesOf, emptyIndex}
+use Rattle.encoding.specs.declared.Sizes.{Sizes}
 use Rattle.search.specs.Machine.{Machine, machine, Stands, RulesStand, NumbersStand, Running, EndStands, Lengths, Loaded}
 use Rattle.search.specs.MachineStart.{rules-stand, machine-start}
 use Rattle.search.specs.SearchStands.{search-stands}

@@ -11,9 +11,9 @@ use Rattle.definitions.specs.declared.Verdict.{Verdict}
 use Rattle.theory.specs.Limits.{Searchable}
 use Rattle.theory.specs.Counts.{Counted, CountsTell}
 use Rattle.theory.specs.Invariants.{Sound}
-use Rattle.sheet.specs.Encoding.{Arrays, emptyIndex, sizesOf, hold}
-use Rattle.sheet.specs.declared.Sizes.{Sizes}
-use Rattle.sheet.specs.Slots.{ruleWords}
+use Rattle.encoding.specs.Encoding.{Arrays, emptyIndex, sizesOf, hold}
+use Rattle.encoding.specs.declared.Sizes.{Sizes}
+use Rattle.encoding.specs.Slots.{ruleWords}
 use Rattle.search.specs.TrailWords.{TrailStands}
 use Rattle.search.specs.TrailLaws.{Room}
 use Rattle.search.specs.Logging.{Log}

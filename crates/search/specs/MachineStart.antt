@@ -13,9 +13,9 @@ use Rattle.theory.specs.Limits.{Searchable}
 use Rattle.theory.specs.Ends.{standing}
 use Rattle.theory.specs.Counts.{Counted}
 use Rattle.theory.specs.Invariants.{Sound, start-sound}
-use Rattle.sheet.specs.Slots.{ruleWords}
-use Rattle.sheet.specs.Encoding.{emptyIndex, Arrays, hold}
-use Rattle.sheet.specs.EncodingLaws.{rule-length}
+use Rattle.encoding.specs.Slots.{ruleWords}
+use Rattle.encoding.specs.Encoding.{emptyIndex, Arrays, hold}
+use Rattle.encoding.specs.HoldLaws.{rule-length}
 use Rattle.search.specs.TrailLaws.{start-stands}
 use Rattle.search.specs.PlaceLaws.{joined-size}
 use Rattle.search.specs.StoreLaws.{sets-start-take}

@@ -9,7 +9,7 @@ use Rattle.definitions.specs.Lists.{_∈_}
 use Rattle.definitions.specs.Words.{Atom, Literal, negate, plain, Clause, Problem}
 use Rattle.definitions.specs.Search.{Trail, isTrue, isFalse, Logged, clauseOf, Act, conflict, force}
 use Rattle.theory.specs.Limits.{LiteralLimits}
-use Rattle.sheet.specs.Encoding.{atomCode, position, literalWord, clauseWords}
+use Rattle.encoding.specs.Encoding.{atomCode, position, literalWord, clauseWords}
 use Rattle.search.specs.Units.{clauseAt}
 use Rattle.search.specs.declared.Act.the-variants.{Conflict, Force, Nothing}
 

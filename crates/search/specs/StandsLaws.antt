@@ -19,7 +19,7 @@ use Rattle.theory.specs.Trail.{Decision, Consequence, Ok, bare, next}
 use Rattle.theory.specs.Choices.{choiceWorld, inv-act}
 use Rattle.theory.specs.Unknown.{consistent}
 use Rattle.theory.specs.Ends.{Fits, step-fits}
-use Rattle.sheet.specs.Encoding.{position, literalWord}
+use Rattle.encoding.specs.Encoding.{position, literalWord}
 use Rattle.walk.specs.Values.{valueOf}
 use Rattle.search.specs.Units.{actFrom}
 use Rattle.search.specs.Standing.{truth, actWord}

@@ -14,8 +14,8 @@ use Rattle.definitions.specs.Instances.{taskOf}
 use Rattle.definitions.specs.Search.{State, Act, conflict, force, nextGoal, backtrack}
 use Rattle.theory.specs.Tests.{by-test, by-option, apart, none≢some, not-true, and-left}
 use Rattle.theory.specs.ListLaws.{all-each}
-use Rattle.sheet.specs.Encoding.{literalWord}
-use Rattle.sheet.specs.CodeLaws.{index-within}
+use Rattle.encoding.specs.Encoding.{literalWord}
+use Rattle.encoding.specs.CodeLaws.{index-within}
 use Rattle.search.specs.Units.{actFrom, ClausesFit}
 use Rattle.search.specs.Standing.{actWord}
 use Rattle.search.specs.TrailWords.{latestDecision, firstUnset}

@@ -20,8 +20,8 @@ use Rattle.theory.specs.Limits.{Searchable}
 use Rattle.theory.specs.Steps.{Step, unit, undone, refuted, logs, overflows, decides, overspends, rests, kind}
 use Rattle.theory.specs.Counts.{step-counts}
 use Rattle.theory.specs.Invariants.{step-sound}
-use Rattle.sheet.specs.Slots.{ruleWords}
-use Rattle.sheet.specs.Encoding.{position, literalWord}
+use Rattle.encoding.specs.Slots.{ruleWords}
+use Rattle.encoding.specs.Encoding.{position, literalWord}
 use Rattle.walk.specs.Values.{valueOf}
 use Rattle.search.specs.Standing.{truth, actWord}
 use Rattle.search.specs.TrailWords.{markOf, latestDecision, cleared, firstUnset, TrailStands}

@@ -16,8 +16,8 @@ use Rattle.theory.specs.Tests.{by-test, by-option, apart, true-and-false, none�
 use Rattle.theory.specs.ListLaws.{at-split, in-along, Different, firstOf-in, firstOf-passes}
 use Rattle.theory.specs.WordLaws.{sameAtom-eq, sameAtom-refl, sameLiteral-eq, negate-negate, negate-atom, negate-differs, plain-atom, as-plain, as-negated}
 use Rattle.theory.specs.SearchLaws.{true-at, at-true, unset-not-true, unset-not-false, unset-of}
-use Rattle.sheet.specs.PositionLaws.{apart-atoms, position-inside, position-injective, position-append, position-behind, literal-word-append}
-use Rattle.sheet.specs.Encoding.{position, literalWord}
+use Rattle.encoding.specs.PositionLaws.{apart-atoms, position-inside, position-injective, position-append, position-behind, literal-word-append}
+use Rattle.encoding.specs.Encoding.{position, literalWord}
 use Rattle.search.specs.Standing.{truth, Valued}
 use Rattle.search.specs.TrailWords.{markOf, latestDecision, cleared, firstUnset, TrailStands}
 use Rattle.search.specs.LiteralWords.{word-plain, word-negated, word-half, word-small, word-even, word-next}

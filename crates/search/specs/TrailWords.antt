@@ -7,7 +7,7 @@ use lib.Dec.{eqb}
 use lib.ListN.{length, getD, set, take}
 use Rattle.definitions.specs.Words.{Atom}
 use Rattle.definitions.specs.Search.{Why, decided, flipped, forced, Entry, Trail}
-use Rattle.sheet.specs.Encoding.{literalWord}
+use Rattle.encoding.specs.Encoding.{literalWord}
 use Rattle.search.specs.Standing.{Valued}
 
 -- why a word was set: 0 by a clause, 1 a decision, 2 a decision set to false

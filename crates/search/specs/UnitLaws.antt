@@ -18,9 +18,9 @@ use Rattle.theory.specs.Tests.{by-test, by-option, apart, true-and-false}
 use Rattle.theory.specs.ListLaws.{all-each}
 use Rattle.theory.specs.WordLaws.{sameAtom-eq, literal-ext, negate-atom, as-plain, as-negated, goal-of}
 use Rattle.theory.specs.SearchLaws.{unset-not-true, unset-not-false, unset-of, negated-false, clause-head, Alone, conflict-false, force-unit, false-conflict, unit-force, isGoal-in, in-isGoal, mayLogged}
-use Rattle.sheet.specs.PositionLaws.{position-inside, position-injective, position-append}
-use Rattle.sheet.specs.Rows.{wordOf}
-use Rattle.sheet.specs.Encoding.{position, literalWord, clauseWords}
+use Rattle.encoding.specs.PositionLaws.{position-inside, position-injective, position-append}
+use Rattle.encoding.specs.Signs.{wordOf}
+use Rattle.encoding.specs.Encoding.{position, literalWord, clauseWords}
 use Rattle.search.specs.PlaceLaws.{getElem-in}
 use Rattle.walk.specs.Values.{opposite, valueOf}
 use Rattle.search.specs.Scan.{unsetToo, join, seenFrom, look}

@@ -3,7 +3,6 @@ ghost use mathlib.Core.Path.{_≡_};
 ghost use Prim.Native.Nat.{ℕ, _+_, _-_, _/_, _%_, _≤_, _<_};
 ghost use lib.ListN.{length, getD, set, take, drop};
 ghost use Rattle.search.specs.TrailWords.{latestDecision, cleared, firstUnset};
-use walk::values;
 
 // Sets a literal, with why it is set, behind the first n entries.
 pub fn set_literal(
@@ -17,7 +16,7 @@ pub fn set_literal(
     requires { ⌜ (n < 256) × (w < 512) ⌝ }
     ensures { λ _. ⌜ (now (values .exit) ≡ set (now (values .entry)) (w / 2) (1 + w % 2)) × (now (trail .exit) ≡ set (now (trail .entry)) n w) × (now (marks .exit) ≡ set (now (marks .entry)) n why) ⌝ }
 {
-    let word = values::wide(w);
+    let word = encoding::wide(w);
     let at = word / 2;
     values[at] = (word % 2) as u8 + 1;
     trail[n] = w;
@@ -47,7 +46,7 @@ pub fn undo(values: &mut [u8; 256], trail: &[u16; 256], from: usize, n: usize)
 {
     let mut i = from;
     while i < n {
-        let at = values::wide(trail[i]) / 2;
+        let at = encoding::wide(trail[i]) / 2;
         values[at] = 0;
         i += 1;
     }

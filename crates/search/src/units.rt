@@ -50,14 +50,14 @@ fn may_set(
     requires { ⌜ (goals ≤ 256) × ClausesFit (now starts) (now literals) (now heads) given (c + 1) ⌝ }
     ensures { λ r. ⌜ r ≡ maySet (now (values .entry)) (now (starts .entry)) (now (literals .entry)) (now (heads .entry)) given goals c w ⌝ }
 {
-    if values::wide(w) < 2 * goals {
+    if encoding::wide(w) < 2 * goals {
         return true;
     }
     if c < given {
         return false;
     }
     let i = c - given;
-    let from = values::wide(starts[c]);
+    let from = encoding::wide(starts[c]);
     let count = wide8(heads[i]);
     all_false(values, literals, from, count)
 }
@@ -76,8 +76,8 @@ fn act_at(
     ensures { λ r. ⌜ r ≡ actAt (now (values .entry)) (now (starts .entry)) (now (literals .entry)) (now (heads .entry)) given goals c ⌝ }
 {
     let next = c + 1;
-    let from = values::wide(starts[c]);
-    let end = values::wide(starts[next]);
+    let from = encoding::wide(starts[c]);
+    let end = encoding::wide(starts[next]);
     match scan::look_at(values, literals, from, end) {
         Seen::AllFalse => Act::Conflict,
         Seen::One(w) => {

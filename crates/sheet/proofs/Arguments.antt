@@ -6,8 +6,9 @@ use native.Mathlib.Omega.{arith}
 use lib.Dec.{eqb}
 use borrow.Author.Tests.{eq-eqb, ne-eqb, le-leb, lt-leb}
 use Rattle.definitions.specs.Questions.{_>>_, ask, within, ruleArgument}
-use Rattle.sheet.specs.Rows.{numberOf}
-use Rattle.sheet.specs.Slots.{argument, termWord, argumentWord}
+use Rattle.encoding.specs.Signs.{numberOf}
+use Rattle.sheet.specs.SlotReads.{argument, argumentWord}
+use Rattle.encoding.specs.Slots.{termWord}
 
 abbrev word : Bool → ℕ → Bool → ℕ → ℕ
 word rule constants negative size = argumentWord (argument rule constants (record { negative = negative; size = size }))

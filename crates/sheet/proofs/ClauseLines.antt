@@ -11,13 +11,15 @@ use Rattle.definitions.specs.Words.{Clause, Pattern}
 use Rattle.definitions.specs.Instances.{ground}
 use Rattle.definitions.specs.Questions.{Asked, no, yes, _>>=_, _>>_, ask, Walk, within, clauseArgument, literals, patternOf, literalOf}
 use Rattle.theory.specs.ListLaws.{Each}
-use Rattle.sheet.specs.Rows.{numberOf, numbers}
+use Rattle.encoding.specs.Signs.{numberOf}
+use Rattle.sheet.specs.Rows.{numbers}
 use Rattle.sheet.specs.RowLaws.{within-high}
-use Rattle.sheet.specs.Slots.{argument, slotWords, SlotsRead}
+use Rattle.sheet.specs.SlotReads.{argument, SlotsRead}
+use Rattle.encoding.specs.Slots.{slotWords}
 use Rattle.sheet.specs.SlotLaws.{literals-length, clause-literals, PatternRead, patterns-read}
 use Rattle.sheet.specs.Entering.{ClauseSlots, Entered, entered, enterSlots}
 use Rattle.sheet.specs.LineReads.{clauseAsked, moreClauses, clauseEntered, clauseAnswer, ClauseRead}
-use Rattle.sheet.specs.declared.Sizes.{Sizes}
+use Rattle.encoding.specs.declared.Sizes.{Sizes}
 use Rattle.sheet.specs.declared.LineRead.{LineRead}
 use Rattle.sheet.specs.declared.LineRead.the-variants.{No, Yes}
 use Rattle.sheet.proofs.CountColumns.{count-missing, count-out, count-in}

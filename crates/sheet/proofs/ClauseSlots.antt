@@ -10,11 +10,12 @@ use Rattle.definitions.specs.Lists.{joined}
 use Rattle.definitions.specs.Words.{Term, constant, Pattern}
 use Rattle.definitions.specs.Instances.{termValue, ground}
 use Rattle.theory.specs.ListLaws.{Each}
-use Rattle.sheet.specs.Rows.{wordOf}
-use Rattle.sheet.specs.Slots.{termWord, termWords, patternWords, slotWords}
-use Rattle.sheet.specs.SlotLaws.{TermInRange, constant-only, PatternRead, termWords-length}
+use Rattle.encoding.specs.Signs.{wordOf}
+use Rattle.encoding.specs.Slots.{termWord, termWords, patternWords, slotWords}
+use Rattle.sheet.specs.SlotLaws.{TermInRange, constant-only, PatternRead}
+use Rattle.encoding.specs.SlotLaws.{termWords-length}
 use Rattle.sheet.specs.Entering.{ClauseSlot, ClauseSlots, slotCode, Entered, enterSlots}
-use Rattle.sheet.specs.Slots.{asPattern}
+use Rattle.encoding.specs.Slots.{asPattern}
 
 -- ── the limits ──
 

@@ -7,9 +7,9 @@ use borrow.Author.Tests.{ne-eqb}
 use Rattle.definitions.specs.Words.{Clause, Rule}
 use Rattle.definitions.specs.Sheet.{Number}
 use Rattle.definitions.specs.Questions.{Asked, no, yes}
-use Rattle.sheet.specs.Encoding.{arrays}
+use Rattle.encoding.specs.Encoding.{arrays}
 use Rattle.sheet.specs.LineReads.{constantsAsked, arityAsked, ruleAsked, clauseAsked, ConstantsRead, SymbolRead, RuleRead, ClauseRead, withArities, withRules, withEntered, ConstantsHeld, SymbolHeld, RuleHeld, ClauseEntersHeld, LineHeld}
-use Rattle.sheet.specs.declared.Sizes.{Sizes}
+use Rattle.encoding.specs.declared.Sizes.{Sizes}
 use Rattle.sheet.specs.declared.LineRead.{LineRead}
 
 module _ (answer : LineRead) (s : Sizes) (a r st l t i : List ℕ) where

@@ -15,9 +15,11 @@ use Rattle.definitions.specs.Questions.{Asked, no, yes, _>>=_, _>>_, ask, Walk,
 use Rattle.theory.specs.Tests.{by-test, true-and-false}
 use Rattle.theory.specs.AskedLaws.{by-asked}
 use Rattle.column.specs.Sets.{sets-append}
-use Rattle.sheet.specs.Rows.{wordOf, numberOf}
-use Rattle.sheet.specs.Slots.{argument, patternWords, slotWords, TermsRead, SlotRead, SlotsRead}
-use Rattle.sheet.specs.SlotLaws.{prefixed, prefixed-nil, prefixed-twice, rest-length, arguments-rest, literal-read, literal-rest, slotWords-length, slotWords-append, slotWords-one}
+use Rattle.encoding.specs.Signs.{wordOf, numberOf}
+use Rattle.sheet.specs.SlotReads.{argument, TermsRead, SlotRead, SlotsRead}
+use Rattle.encoding.specs.Slots.{patternWords, slotWords}
+use Rattle.sheet.specs.SlotLaws.{prefixed, prefixed-nil, prefixed-twice, rest-length, arguments-rest, literal-read, literal-rest}
+use Rattle.encoding.specs.SlotLaws.{slotWords-length, slotWords-append, slotWords-one}
 use Rattle.sheet.proofs.Terms.{column-at}
 
 -- ── one literal ──

@@ -7,7 +7,8 @@ use borrow.Author.Tests.{eq-eqb, ne-eqb, le-leb, lt-leb}
 use Rattle.definitions.specs.Sheet.{Number}
 use Rattle.definitions.specs.Questions.{within}
 use Rattle.theory.specs.Tests.{by-test}
-use Rattle.sheet.specs.Rows.{numberOf, kindHere}
+use Rattle.encoding.specs.Signs.{numberOf}
+use Rattle.sheet.specs.Rows.{kindHere}
 
 module _ (low high w : ℕ) where
   pub negative-out : w % 2 ≡ 1 → false ≡ within low high (numberOf w)

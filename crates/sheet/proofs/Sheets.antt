@@ -18,12 +18,13 @@ use Rattle.definitions.specs.Questions.{Asked, no, yes, asNumber, columns, good
 use Rattle.theory.specs.Tests.{by-test, apart, and-left, and-right}
 use Rattle.theory.specs.AskedLaws.{bind-yes, ask-yes}
 use Rattle.theory.specs.Limits.{line-begun}
-use Rattle.sheet.specs.Rows.{numberOf, numbers, lineLength, kindHere}
+use Rattle.encoding.specs.Signs.{numberOf}
+use Rattle.sheet.specs.Rows.{numbers, lineLength, kindHere}
 use Rattle.sheet.specs.RowLaws.{lineLength-le, lines-none, lines-ended, lines-unended}
-use Rattle.sheet.specs.Encoding.{startsFrom, indexFrom, emptyIndex, sizesOf, Arrays, arrays, hold}
+use Rattle.encoding.specs.Encoding.{startsFrom, indexFrom, emptyIndex, sizesOf, Arrays, arrays, hold}
 use Rattle.sheet.specs.LineReads.{Ready, LineHeld, columnsAsked, columnsRead, SheetRead}
 use Rattle.sheet.specs.SheetLaws.{Started, draft-ready, columns-refused, kind-refused, LineEnds, line-ends}
-use Rattle.sheet.specs.declared.Sizes.{Sizes}
+use Rattle.encoding.specs.declared.Sizes.{Sizes}
 use Rattle.sheet.specs.declared.Read.the-variants.{Accepted}
 use Rattle.sheet.specs.declared.LineRead.{LineRead}
 use Rattle.sheet.specs.declared.LineRead.the-variants.{No, Yes}

@@ -14,8 +14,10 @@ use Rattle.theory.specs.AskedLaws.{by-asked}
 use Rattle.column.specs.Sets.{front, sets-front}
 use Rattle.sheet.specs.Rows.{numbers}
 use Rattle.sheet.specs.RowLaws.{numbers-length}
-use Rattle.sheet.specs.Slots.{argument, slotWords, SlotsRead}
-use Rattle.sheet.specs.SlotLaws.{literals-fewer, literals-refusal, slotWords-length, slotWords-append}
+use Rattle.sheet.specs.SlotReads.{argument, SlotsRead}
+use Rattle.encoding.specs.Slots.{slotWords}
+use Rattle.sheet.specs.SlotLaws.{literals-fewer, literals-refusal}
+use Rattle.encoding.specs.SlotLaws.{slotWords-length, slotWords-append}
 
 -- ── a walk that is refused or not ──
 

@@ -11,9 +11,11 @@ use Rattle.definitions.specs.Sheet.{Number}
 use Rattle.definitions.specs.Questions.{Asked, no, yes, _>>=_, Walk, arguments}
 use Rattle.theory.specs.AskedLaws.{by-asked}
 use Rattle.column.specs.Sets.{sets-before}
-use Rattle.sheet.specs.Rows.{numberOf}
-use Rattle.sheet.specs.Slots.{argument, termWord, argumentWord, termWords, TermsRead}
-use Rattle.sheet.specs.SlotLaws.{prefixed, prefixed-nil, prefixed-twice, TermInRange, argument-in-range, termWords-length}
+use Rattle.encoding.specs.Signs.{numberOf}
+use Rattle.sheet.specs.SlotReads.{argument, argumentWord, TermsRead}
+use Rattle.encoding.specs.Slots.{termWord, termWords}
+use Rattle.sheet.specs.SlotLaws.{prefixed, prefixed-nil, prefixed-twice, TermInRange, argument-in-range}
+use Rattle.encoding.specs.SlotLaws.{termWords-length}
 
 -- ── words and terms ──
 

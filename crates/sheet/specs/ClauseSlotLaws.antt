@@ -8,11 +8,11 @@ use lib.ListN.{length, getD, replicate, length-append}
 use lib.Seq.{length-take-le, getD-append-seam, getD-append-add}
 use Rattle.definitions.specs.Lists.{_∈_, joined}
 use Rattle.definitions.specs.Words.{Literal, Clause, constant, Pattern}
-use Rattle.sheet.specs.Rows.{wordOf}
-use Rattle.sheet.specs.Slots.{asPattern, termWord, termWords, patternWords, slotWords}
+use Rattle.encoding.specs.Signs.{wordOf}
+use Rattle.encoding.specs.Slots.{asPattern, termWord, termWords, patternWords, slotWords}
 use Rattle.sheet.specs.Entering.{ClauseSlot, slotCode}
-use Rattle.sheet.specs.Encoding.{place, atomCode}
-use Rattle.sheet.specs.CodeLaws.{CodeLimits, AtomLimits, arity-at-most}
+use Rattle.encoding.specs.Encoding.{place, atomCode}
+use Rattle.encoding.specs.CodeLaws.{CodeLimits, AtomLimits, arity-at-most}
 
 -- ── the slot of a clause's literal ──
 

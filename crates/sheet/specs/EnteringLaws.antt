@@ -7,14 +7,8 @@ use lib.Dec.{eqb}
 use lib.ListN.{getD, set}
 use borrow.Author.Tests.{eqb-true, eqb-false, eq-eqb, ne-eqb}
 use Rattle.theory.specs.Tests.{by-test}
+use Rattle.encoding.specs.CodeLaws.{set-bounded}
 use Rattle.sheet.specs.Entering.{slotCode, Entered, entered, enterLiteral, enterSlots}
-
-pub set-bounded : (l : List ℕ) (i v bound : ℕ) → ((k : ℕ) → getD l k 0 ≤ bound) → v ≤ bound → (k : ℕ) → getD (set l i v) k 0 ≤ bound
-set-bounded [] i v bound h g k = h k
-set-bounded (x ∷ l) zero v bound h g zero = g
-set-bounded (x ∷ l) zero v bound h g (suc k) = h (suc k)
-set-bounded (x ∷ l) (suc i) v bound h g zero = h zero
-set-bounded (x ∷ l) (suc i) v bound h g (suc k) = set-bounded l i v bound (λ j. h (suc j)) g k
 
 -- the index names only atoms of the table
 abbrev pub IndexWithin : Entered → Type 0

@@ -1,13 +1,10 @@
 pub mod Rows
 pub mod RowLaws
-pub mod Slots
+pub mod SlotReads
 pub mod SlotLaws
 pub mod Entering
 pub mod EnteringLaws
-pub mod Encoding
-pub mod CodeLaws
-pub mod PositionLaws
 pub mod ClauseSlotLaws
-pub mod EncodingLaws
+pub mod HoldingLaws
 pub mod LineReads
 pub mod SheetLaws

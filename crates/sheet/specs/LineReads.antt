@@ -10,10 +10,10 @@ use Rattle.definitions.specs.Lists.{isEmpty}
 use Rattle.definitions.specs.Words.{Clause, Rule}
 use Rattle.definitions.specs.Sheet.{Line, Number}
 use Rattle.definitions.specs.Questions.{Asked, no, yes, _>>=_, _>>_, ask, count, ruleArgument, clauseArgument, literals, patternOf, literalOf, restricted, columns, goodLength, Reading, refused, accepted}
-use Rattle.sheet.specs.Slots.{asPattern, slotWords, ruleWords}
+use Rattle.encoding.specs.Slots.{asPattern, slotWords, ruleWords}
 use Rattle.sheet.specs.Entering.{Entered, entered, enterSlots}
-use Rattle.sheet.specs.Encoding.{Arrays, arrays, hold, sizesOf}
-use Rattle.sheet.specs.declared.Sizes.{Sizes}
+use Rattle.encoding.specs.Encoding.{Arrays, arrays, hold, sizesOf}
+use Rattle.encoding.specs.declared.Sizes.{Sizes}
 use Rattle.sheet.specs.declared.Read.{Read}
 use Rattle.sheet.specs.declared.Read.the-variants.{Refused, Accepted}
 use Rattle.sheet.specs.declared.LineRead.{LineRead}

@@ -12,7 +12,8 @@ use borrow.Author.Tests.{eq-eqb, ne-eqb, eqb-true, eqb-false, leb-true}
 use Rattle.definitions.specs.Sheet.{putByte, lines, Number}
 use Rattle.definitions.specs.Questions.{yes, _>>=_, _>>_, ask, within, count, kindOf}
 use Rattle.theory.specs.Tests.{by-test, apart, and-left, and-right}
-use Rattle.sheet.specs.Rows.{wordOf, numberOf, numbers, lineLength, kindHere, kindAsked}
+use Rattle.encoding.specs.Signs.{wordOf, numberOf}
+use Rattle.sheet.specs.Rows.{numbers, lineLength, kindHere, kindAsked}
 
 -- ── lines ──
 
@@ -70,24 +71,6 @@ kind-here (suc before) n ns =
     by-test (within 2 4 n)
     (λ t. let e = kindAsked-positive (n .size) ns (omega (arith, within-low 2 4 n t)) in by-test (leb (suc before) (n .size)) (λ u. cc) (λ u. cc))
     (λ t. cc)
-
--- ── words ──
-
-pub number-word : (negative : Bool) (size : ℕ) → numberOf (wordOf negative size) ≡ record { negative = negative; size = size }
-unfolding wordOf numberOf
-number-word true size =
-    let e : (2 * size + 1) / 2 ≡ size = omega arith in
-    cc (eq-eqb ((2 * size + 1) % 2) 1 (omega arith))
-number-word false size =
-    let e : (2 * size) / 2 ≡ size = omega arith in
-    cc (ne-eqb ((2 * size) % 2) 1 (λ h. omega arith))
-
-pub word-number : (w : ℕ) → wordOf (numberOf w .negative) (numberOf w .size) ≡ w
-unfolding wordOf numberOf
-word-number w =
-    by-test (eqb (w % 2) 1)
-    (λ t. rw t (omega (arith, eqb-true (w % 2) 1 t)))
-    (λ t. rw t (omega (arith, eqb-false (w % 2) 1 t)))
 
 -- ── rows ──
 

@@ -1,17 +1,12 @@
--- The columns of a line as words: twice the size of the number, and 1 more where it is negative. Assumes nothing.
-use Prim.Native.Nat.{ℕ, zero, suc, _+_, _*_, _/_, _%_}
+-- The columns of a line as a row of words. Assumes nothing.
+use Prim.Native.Nat.{ℕ, zero, suc}
 use mathlib.Core.Bool.{Bool, true, false, _&&_}
 use mathlib.Core.List.{List, [], _∷_, map}
 use lib.Dec.{eqb, leb}
 use lib.ListN.{take}
 use Rattle.definitions.specs.Sheet.{Number}
 use Rattle.definitions.specs.Questions.{Asked, no, yes, Walk, within}
-
-unfoldable pub wordOf : Bool → ℕ → ℕ
-wordOf negative size = elim negative [ true ↦ 2 * size + 1 | false ↦ 2 * size ]
-
-unfoldable pub numberOf : ℕ → Number
-numberOf w = record { negative = eqb (w % 2) 1; size = w / 2 }
+use Rattle.encoding.specs.Signs.{numberOf}
 
 -- the numbers of the first words
 unfoldable pub numbers : ℕ → List ℕ → List Number

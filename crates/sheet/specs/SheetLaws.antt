@@ -19,12 +19,13 @@ use Rattle.theory.specs.Limits.{LiteralLimits, Limits, arity-limit, clause-lite
 use Rattle.column.specs.Sets.{front}
 use Rattle.sheet.specs.Rows.{kindHere, kindAsked}
 use Rattle.sheet.specs.RowLaws.{kind-here}
-use Rattle.sheet.specs.Slots.{asPattern, slotWords}
+use Rattle.encoding.specs.Slots.{asPattern, slotWords}
 use Rattle.sheet.specs.Entering.{Entered}
-use Rattle.sheet.specs.Encoding.{Arrays, emptyIndex, sizesOf, hold}
-use Rattle.sheet.specs.EncodingLaws.{enteredOf, Encodable, limits-encodable, hold-index-within, clause-held, hold-symbol, hold-rule, hold-clause}
+use Rattle.encoding.specs.Encoding.{Arrays, emptyIndex, sizesOf, hold}
+use Rattle.sheet.specs.HoldingLaws.{enteredOf, hold-index-within, clause-held, hold-symbol, hold-rule, hold-clause}
+use Rattle.encoding.specs.HoldLaws.{Encodable, limits-encodable}
 use Rattle.sheet.specs.LineReads.{constantsAsked, arityAsked, ruleAsked, clauseAsked, moreConstants, moreSymbols, moreRules, moreClauses, clauseEntered, clauseAnswer, Ready, withArities, withRules, withEntered, ConstantsHeld, SymbolHeld, RuleHeld, ClauseEntersHeld, LineHeld, columnsAsked}
-use Rattle.sheet.specs.declared.Sizes.{Sizes}
+use Rattle.encoding.specs.declared.Sizes.{Sizes}
 use Rattle.sheet.specs.declared.LineRead.{LineRead}
 use Rattle.sheet.specs.declared.LineRead.the-variants.{No, Yes}
 

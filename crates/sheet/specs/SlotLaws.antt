@@ -16,7 +16,9 @@ use Rattle.definitions.specs.Questions.{Asked, no, yes, _>>=_, _>>_, ask, Walk,
 use Rattle.theory.specs.Tests.{by-test, apart, true-and-false, and-left, and-right}
 use Rattle.theory.specs.ListLaws.{joined-append, Each, each-nil, each-cons}
 use Rattle.theory.specs.AskedLaws.{yes-injective, by-asked, bind-yes, ask-yes}
-use Rattle.sheet.specs.Slots.{argument, termWord, termWords, patternWords, slotWords, hasTerm, covered, allCovered}
+use Rattle.sheet.specs.SlotReads.{argument, covered, allCovered}
+use Rattle.encoding.specs.Slots.{termWord, termWords, patternWords, slotWords, hasTerm}
+use Rattle.encoding.specs.SlotLaws.{WordTells, InSlot, first-in, second-in, third-in, slots-have}
 
 -- ── a walk in two parts ──
 
@@ -368,39 +370,7 @@ patterns-read rule constants arities =
       inRange = arguments-in-range rule constants _ (r .behind) (r .args) (r .read);
     })
 
--- ── the words of slots ──
-
-pub termWords-length : (ts : List Term) → length (termWords ts) ≡ 3
-unfolding termWords
-termWords-length [] = refl
-termWords-length (a ∷ []) = refl
-termWords-length (a ∷ b ∷ []) = refl
-termWords-length (a ∷ b ∷ c ∷ ts) = refl
-
-pub slotWords-length : (xs : List Pattern) → length (slotWords xs) ≡ 4 * length xs
-unfolding slotWords patternWords joined
-slotWords-length [] = refl
-slotWords-length (x ∷ xs) = omega (arith, length-append (termWords (x .terms)) (slotWords xs), termWords-length (x .terms), slotWords-length xs)
-
-pub slotWords-append : (xs ys : List Pattern) → slotWords (xs ++ ys) ≡ slotWords xs ++ slotWords ys
-unfolding slotWords
-slotWords-append xs ys = joined-append patternWords xs ys
-
-pub slotWords-one : (x : Pattern) → slotWords (x ∷ []) ≡ patternWords x
-unfolding slotWords joined
-slotWords-one x = append-nil (patternWords x)
-
 -- ── question 12 over slots ──
-
--- the word tells the term: a variable is one of 6, and a constant is no 0
-abbrev pub WordTells : Term → Type 0
-WordTells (variable v) = (1 ≤ v) × (v ≤ 6)
-WordTells (constant c) = 1 ≤ c
-
--- a slot has room for the terms, and their words tell them
-pub record InSlot (x : Pattern) : Type 0 where
-  pub few : length (x .terms) ≤ 3
-  pub tells : Each WordTells (x .terms)
 
 range-tells : (rule : Bool) (constants : ℕ) (t : Term) → TermInRange rule constants t → WordTells t
 range-tells rule constants (variable v) h = (h .1, h .2)
@@ -413,64 +383,11 @@ read-in-slot rule constants arities h x r =
       tells = λ t m. range-tells rule constants t (r .inRange t m);
     }
 
-eqb-swap : (m n : ℕ) → eqb m n ≡ eqb n m
-eqb-swap m n =
-    by-test (eqb m n)
-    (λ e. e ∙ sym (eq-eqb n m (sym (eqb-true m n e))))
-    (λ e. e ∙ sym (ne-eqb n m (λ h. eqb-false m n e (sym h))))
-
--- three tests of a slot, as a list has them
-or-three : (p q r h : Bool) → (p || q || r || h) ≡ ((p || (q || (r || false))) || h)
-or-three true q r h = refl
-or-three false true r h = refl
-or-three false false true h = refl
-or-three false false false h = refl
-
 and-three : (p q r h : Bool) → (p && q && r && h) ≡ ((p && (q && (r && true))) && h)
 and-three false q r h = refl
 and-three true false r h = refl
 and-three true true false h = refl
 and-three true true true h = refl
-
-first-in : {A : Type 0} (a : A) (l : List A) → a ∈ a ∷ l
-first-in a l = List·Memᴰ·head refl
-
-second-in : {A : Type 0} (a b : A) (l : List A) → b ∈ a ∷ b ∷ l
-second-in a b l = List·Memᴰ·tail (first-in b l)
-
-third-in : {A : Type 0} (a b c : A) (l : List A) → c ∈ a ∷ b ∷ c ∷ l
-third-in a b c l = List·Memᴰ·tail (second-in b c l)
-
-module _ (v : ℕ) (low : 1 ≤ v) (high : v ≤ 6) where
-  word-variable : (t : Term) → WordTells t → eqb (termWord t) v ≡ isVariable v t
-  unfolding termWord isVariable
-  word-variable (variable w) h = eqb-swap w v
-  word-variable (constant c) h = ne-eqb (6 + c) v (λ e. omega arith)
-
-  no-word : eqb 0 v ≡ false
-  no-word = ne-eqb 0 v (λ e. omega arith)
-
-  terms-have : (s : ℕ) (ts : List Term) (ws : List ℕ) → length ts ≤ 3 → Each WordTells ts
-      → hasTerm v (s ∷ termWords ts ++ ws) ≡ (any (isVariable v) ts || hasTerm v ws)
-  unfolding hasTerm termWords any
-  terms-have s [] ws few h = rw no-word
-  terms-have s (a ∷ []) ws few h =
-      rw (word-variable a (h a (first-in a _)), no-word) (or-three (isVariable v a) false false (hasTerm v ws))
-  terms-have s (a ∷ b ∷ []) ws few h =
-      rw (word-variable a (h a (first-in a _)), word-variable b (h b (second-in a b _)), no-word)
-      (or-three (isVariable v a) (isVariable v b) false (hasTerm v ws))
-  terms-have s (a ∷ b ∷ c ∷ []) ws few h =
-      rw (word-variable a (h a (first-in a _)), word-variable b (h b (second-in a b _)), word-variable c (h c (third-in a b c _)))
-      (or-three (isVariable v a) (isVariable v b) (isVariable v c) (hasTerm v ws))
-  terms-have s (a ∷ b ∷ c ∷ d ∷ ts) ws few h = absurd (omega arith)
-
-  slots-have : (hs : List Pattern) → Each InSlot hs → hasTerm v (slotWords hs) ≡ occursIn hs v
-  unfolding slotWords joined patternWords occursIn any hasTerm
-  slots-have [] h = refl
-  slots-have (x ∷ hs) h =
-      let here = h x (first-in x hs) in
-      terms-have _ (x .terms) (slotWords hs) (here .few) (here .tells)
-      ∙ rw (slots-have hs (λ y m. h y (List·Memᴰ·tail m)))
 
 module _ (hs : List Pattern) (slots : Each InSlot hs) where
   term-covered : (t : Term) → WordTells t → covered (slotWords hs) (termWord t) ≡ inHead hs t

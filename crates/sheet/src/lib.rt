@@ -5,23 +5,14 @@ mod enter; // enter.rt: a clause into the arrays
 mod lines; // lines.rt: a line of each kind
 
 use definitions::Refusal;
+use encoding::Sizes;
 ghost use mathlib.Core.Path.{_≡_};
 ghost use Prim.Native.Nat.{_+_, _-_, _/_, _≤_, _<_};
 ghost use lib.ListN.{drop};
 ghost use Rattle.definitions.specs.Questions.{read};
 ghost use Rattle.sheet.specs.Rows.{numbers};
-ghost use Rattle.sheet.specs.Encoding.{arrays, emptyIndex};
+ghost use Rattle.encoding.specs.Encoding.{arrays, emptyIndex};
 ghost use Rattle.sheet.specs.LineReads.{Ready, LineHeld, SheetRead};
-
-// How much of each array is in use.
-pub struct Sizes {
-    pub constants: usize,
-    pub symbols: usize,
-    pub rules: usize,
-    pub clauses: usize,
-    pub atoms: usize,
-    pub literals: usize,
-}
 
 // The first question that is answered no, or the sizes of what was read.
 pub enum Read {

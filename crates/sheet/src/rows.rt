@@ -4,15 +4,10 @@ ghost use Prim.Native.Nat.{_+_, _-_, _*_, _/_, _≤_, _<_};
 ghost use lib.Dec.{ltb};
 ghost use lib.ListN.{length, take, drop};
 ghost use Rattle.definitions.specs.Questions.{columns, within};
-ghost use Rattle.sheet.specs.Rows.{wordOf, numberOf, numbers, rowAsked, lineLength, kindHere};
+ghost use Rattle.encoding.specs.Signs.{wordOf, numberOf};
+ghost use Rattle.sheet.specs.Rows.{numbers, rowAsked, lineLength, kindHere};
 ghost use Rattle.sheet.specs.LineReads.{columnsAsked, columnsRead};
 use column::Column;
-
-pub fn wide(x: u16) -> usize
-    ensures { λ r. ⌜ (r ≡ x) × (r < 65536) ⌝ }
-{
-    x as usize
-}
 
 // The place of the first LF from here on, or the sheet's length where there is none.
 pub fn line_end(sheet: &[u8], from: usize) -> usize
@@ -67,7 +62,7 @@ pub fn read_row(sheet: &[u8], from: usize, count: usize, row: &mut [u16; 34]) ->
 pub fn in_range(word: u16, low: usize, high: usize) -> bool
     ensures { λ r. ⌜ r ≡ within low high (numberOf word) ⌝ }
 {
-    let w = wide(word);
+    let w = encoding::wide(word);
     if w % 2 == 1 {
         return false;
     }
@@ -88,7 +83,7 @@ pub fn kind_here(before: usize, word: u16) -> usize
         }
         return 0;
     }
-    let kind = wide(word) / 2;
+    let kind = encoding::wide(word) / 2;
     if kind < before {
         return 0;
     }

@@ -6,8 +6,8 @@ use lib.ListN.{length, replicate}
 use Rattle.definitions.specs.Words.{Problem}
 use Rattle.definitions.specs.Questions.{accepted, read}
 use Rattle.definitions.specs.Call.{Result, answerOf, listingOf, written}
-use Rattle.sheet.specs.Encoding.{Arrays, arrays, emptyIndex, sizesOf, hold}
-use Rattle.sheet.specs.declared.Sizes.{Sizes}
+use Rattle.encoding.specs.Encoding.{Arrays, arrays, emptyIndex, sizesOf, hold}
+use Rattle.encoding.specs.declared.Sizes.{Sizes}
 use Rattle.solver.specs.declared.Solved.{Solved}
 
 -- the answer, the listing's length, and the room with the listing at its front

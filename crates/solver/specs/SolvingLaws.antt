@@ -19,10 +19,10 @@ use Rattle.theory.specs.Tests.{apart}
 use Rattle.theory.specs.Limits.{accepted-limits, limits-searchable}
 use Rattle.theory.specs.Theorems.{listing-at-most}
 use Rattle.column.specs.Sets.{sets-front}
-use Rattle.sheet.specs.Slots.{ruleWords}
-use Rattle.sheet.specs.Encoding.{atomCode, clauseWords, startsFrom, Arrays, arrays, hold, sizesOf}
+use Rattle.encoding.specs.Slots.{ruleWords}
+use Rattle.encoding.specs.Encoding.{atomCode, clauseWords, startsFrom, Arrays, arrays, hold, sizesOf}
 use Rattle.sheet.specs.LineReads.{SheetRead}
-use Rattle.sheet.specs.declared.Sizes.{Sizes}
+use Rattle.encoding.specs.declared.Sizes.{Sizes}
 use Rattle.sheet.specs.declared.Read.{Read}
 use Rattle.sheet.specs.declared.Read.the-variants as Read
 use Rattle.sheet.specs.declared.Read.the-variants.{Accepted}

@@ -6,13 +6,13 @@ ghost use Rattle.definitions.specs.Words.{Problem};
 ghost use Rattle.definitions.specs.Questions.{read};
 ghost use Rattle.definitions.specs.Search.{search as searchOf};
 ghost use Rattle.definitions.specs.Call.{searched as searchedOf, answered as answeredOf};
-ghost use Rattle.sheet.specs.Encoding.{arrays};
+ghost use Rattle.encoding.specs.Encoding.{arrays};
 ghost use Rattle.solver.specs.Solving.{SolvedAs, Held};
 use crate::Solved;
 use definitions::Answer;
 use definitions::Counts;
 use sheet::Read;
-use sheet::Sizes;
+use encoding::Sizes;
 
 // The search of a sheet that was read, and its listing.
 fn searched(

@@ -3,12 +3,6 @@ ghost use mathlib.Core.Path.{_≡_};
 ghost use Prim.Native.Nat.{_<_};
 ghost use Rattle.walk.specs.Values.{opposite, valueOf};
 
-pub fn wide(x: u16) -> usize
-    ensures { λ r. ⌜ (r ≡ x) × (r < 65536) ⌝ }
-{
-    x as usize
-}
-
 fn negated(v: u8) -> u8
     ensures { λ r. ⌜ r ≡ opposite v ⌝ }
 {
@@ -26,7 +20,7 @@ pub fn value(values: &[u8; 256], w: u16) -> u8
     requires { ⌜ w < 512 ⌝ }
     ensures { λ r. ⌜ r ≡ valueOf (now (values .entry)) w ⌝ }
 {
-    let word = wide(w);
+    let word = encoding::wide(w);
     let at = word / 2;
     let v = values[at];
     if word % 2 == 0 {

@@ -2,7 +2,7 @@
 use Prim.Native.Nat.{_-_}
 use native.Mathlib.Omega.{arith}
 use lib.ListN.{length}
-use Rattle.sheet.specs.Encoding.{Arrays, arrays}
+use Rattle.encoding.specs.Encoding.{Arrays, arrays}
 use Rattle.sheet.proofs.Sheets.{read-long, read-empty, line-inside, Reached, reached-start, reached-end, Asks, asks-count, reached-ready, columns-stop, kind-stop, line-stop, reached-next}
 use borrow.Author.Needs.{needs}
 use Rattle.sheet.proofs.read_sheet.Statement.{statement}

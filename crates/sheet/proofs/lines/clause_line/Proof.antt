@@ -6,7 +6,7 @@ use mathlib.Core.List.{List}
 use native.Mathlib.Omega.{arith}
 use lib.ListN.{length, getD, take, length-take}
 use Rattle.definitions.specs.Questions.{within}
-use Rattle.sheet.specs.Rows.{numberOf}
+use Rattle.encoding.specs.Signs.{numberOf}
 use Rattle.sheet.specs.LineReads.{moreClauses}
 use Rattle.sheet.proofs.ClauseLines.{clause-refused, literals-missing, literals-out, clauses-full, ClauseCount, clause-few, clause-unread, clause-over, clause-slots, clause-many, clause-read}
 use borrow.Author.Needs.{needs}

@@ -1,7 +1,7 @@
 -- `sheet::lines::symbol_line` meets its contract, return by return. Assumes nothing.
 use mathlib.Core.Path.{sym, _∙_}
 use native.Mathlib.Omega.{arith}
-use Rattle.sheet.specs.Rows.{numberOf}
+use Rattle.encoding.specs.Signs.{numberOf}
 use Rattle.sheet.specs.RowLaws.{within-high}
 use Rattle.sheet.specs.LineReads.{moreSymbols}
 use Rattle.sheet.proofs.CountLines.{symbol-refused, arity-missing, arity-out, symbols-full, arity-over, symbol-read}

@@ -1,5 +1,5 @@
 -- `sheet::rows::word` meets its contract, by the sign. Assumes nothing.
-use Rattle.sheet.specs.Rows.{wordOf}
+use Rattle.encoding.specs.Signs.{wordOf}
 use borrow.Author.Needs.{needs}
 use Rattle.sheet.proofs.rows.word.Statement.{statement}
 use Rattle.sheet.proofs.rows.word.Tie as tie

@@ -3,8 +3,8 @@ use Prim.Native.Nat.{_-_, _≤_}
 use mathlib.Core.List.{map}
 use lib.ListN.{length, drop}
 use Rattle.definitions.specs.Questions.{literals, patternOf}
-use Rattle.sheet.specs.Rows.{numberOf}
-use Rattle.sheet.specs.Slots.{argument}
+use Rattle.encoding.specs.Signs.{numberOf}
+use Rattle.sheet.specs.SlotReads.{argument}
 use Rattle.sheet.proofs.Literals.{SlotsSoFar, slotsFrom, slots-start, slots-refused, slots-turn, slots-end}
 use borrow.Author.Needs.{needs}
 use Rattle.sheet.proofs.slots.fill_slots.Statement.{statement}

@@ -2,7 +2,7 @@
 use Prim.Native.Nat.{_≤_, _-_}
 use mathlib.Core.Path.{_≡_}
 use lib.ListN.{length, drop}
-use Rattle.sheet.specs.Slots.{hasTerm}
+use Rattle.encoding.specs.Slots.{hasTerm}
 use Rattle.sheet.proofs.Fours.{term-first, term-second, term-third, term-later, term-end}
 use borrow.Author.Needs.{needs}
 use Rattle.sheet.proofs.slots.has_term.Statement.{statement}

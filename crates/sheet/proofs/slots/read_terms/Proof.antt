@@ -5,8 +5,9 @@ use mathlib.Core.List.{List, [], map}
 use lib.ListN.{drop}
 use lib.Seq.{sets}
 use Rattle.definitions.specs.Questions.{arguments}
-use Rattle.sheet.specs.Rows.{numberOf}
-use Rattle.sheet.specs.Slots.{argument, termWords}
+use Rattle.encoding.specs.Signs.{numberOf}
+use Rattle.sheet.specs.SlotReads.{argument}
+use Rattle.encoding.specs.Slots.{termWords}
 use Rattle.sheet.proofs.Terms.{TermsSoFar, termsFrom, three-zeros, terms-start, terms-short, terms-refused, terms-turn, terms-end}
 use borrow.Author.Needs.{needs}
 use Rattle.sheet.proofs.slots.read_terms.Statement.{statement}

@@ -1,7 +1,7 @@
 -- `solver::answering::answered` meets its contract: the refusal of the reader, or the search of what was read. Assumes nothing.
 use mathlib.Core.Path.{refl}
 use borrow.Author.Needs.{needs}
-use Rattle.sheet.specs.Encoding.{emptyIndex}
+use Rattle.encoding.specs.Encoding.{emptyIndex}
 use Rattle.solver.specs.Solving.{emptyArrays}
 use Rattle.solver.specs.SolvingLaws.{accepted-held, refused-read, refusal-solved, accepted-solved}
 use Rattle.solver.proofs.answering.answered.Statement.{statement}

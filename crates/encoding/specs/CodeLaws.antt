@@ -12,8 +12,7 @@ use Rattle.definitions.specs.Words.{Atom, sameAtom}
 use Rattle.theory.specs.Tests.{by-test, true-and-false}
 use Rattle.theory.specs.ListLaws.{Different}
 use Rattle.theory.specs.WordLaws.{atom-ext, sameAtom-eq, sameAtom-refl}
-use Rattle.sheet.specs.EnteringLaws.{set-bounded}
-use Rattle.sheet.specs.Encoding.{place, atomCode, position, indexFrom, emptyIndex}
+use Rattle.encoding.specs.Encoding.{place, atomCode, position, indexFrom, emptyIndex}
 
 -- ── codes ──
 
@@ -92,6 +91,13 @@ position-here b bs a e = cc
 position-later : (b : Atom) (bs : List Atom) (a : Atom) → sameAtom b a ≡ false → position (b ∷ bs) a ≡ suc (position bs a)
 unfolding position
 position-later b bs a e = cc
+
+pub set-bounded : (l : List ℕ) (i v bound : ℕ) → ((k : ℕ) → getD l k 0 ≤ bound) → v ≤ bound → (k : ℕ) → getD (set l i v) k 0 ≤ bound
+set-bounded [] i v bound h g k = h k
+set-bounded (x ∷ l) zero v bound h g zero = g
+set-bounded (x ∷ l) zero v bound h g (suc k) = h (suc k)
+set-bounded (x ∷ l) (suc i) v bound h g zero = h zero
+set-bounded (x ∷ l) (suc i) v bound h g (suc k) = set-bounded l i v bound (λ j. h (suc j)) g k
 
 index-bounded : (n : ℕ) (gs : List Atom) (index : List ℕ) → ((k : ℕ) → getD index k 0 ≤ n) → (k : ℕ) → getD (indexFrom n gs index) k 0 ≤ n + length gs
 unfolding indexFrom

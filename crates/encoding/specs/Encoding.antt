@@ -6,9 +6,9 @@ use lib.ListN.{length, getD, set, replicate}
 use lib.Seq.{sets}
 use Rattle.definitions.specs.Lists.{joined}
 use Rattle.definitions.specs.Words.{Atom, Literal, sameAtom, Clause, Problem, goalAtoms}
-use Rattle.sheet.specs.Rows.{wordOf}
-use Rattle.sheet.specs.Slots.{ruleWords}
-use Rattle.sheet.specs.declared.Sizes.{Sizes}
+use Rattle.encoding.specs.Signs.{wordOf}
+use Rattle.encoding.specs.Slots.{ruleWords}
+use Rattle.encoding.specs.declared.Sizes.{Sizes}
 
 -- a constant from 0; 0 too where there is no argument
 unfoldable pub place : List ℕ → ℕ → ℕ

@@ -11,8 +11,8 @@ use Rattle.definitions.specs.Lists.{_∈_, joined}
 use Rattle.definitions.specs.Words.{Atom, Literal, sameAtom, Clause}
 use Rattle.theory.specs.Tests.{by-test, true-and-false}
 use Rattle.theory.specs.WordLaws.{sameAtom-eq, sameAtom-refl}
-use Rattle.sheet.specs.Rows.{wordOf}
-use Rattle.sheet.specs.Encoding.{position, literalWord, clauseWords}
+use Rattle.encoding.specs.Signs.{wordOf}
+use Rattle.encoding.specs.Encoding.{position, literalWord, clauseWords}
 
 pub apart-atoms : {a b : Atom} → sameAtom b a ≡ false → b ≡ a → ⊥
 apart-atoms {a} {b} h q = true-and-false (rw q (sameAtom-refl a)) h

@@ -16,14 +16,15 @@ use Rattle.theory.specs.WordLaws.{goal-of, goal-from}
 use Rattle.theory.specs.SearchLaws.{enter-new}
 use Rattle.theory.specs.Limits.{LiteralLimits, Limits, Searchable, limits-searchable}
 use Rattle.column.specs.Sets.{sets-append}
-use Rattle.sheet.specs.Rows.{wordOf}
-use Rattle.sheet.specs.Slots.{asPattern, slotWords, ruleWords}
+use Rattle.encoding.specs.Signs.{wordOf}
+use Rattle.encoding.specs.Slots.{asPattern, slotWords, ruleWords}
 use Rattle.sheet.specs.Entering.{ClauseSlots, Entered, entered, enterLiteral, enterSlots}
 use Rattle.sheet.specs.EnteringLaws.{literal-new, literal-known}
-use Rattle.sheet.specs.Encoding.{atomCode, position, literalWord, clauseWords, startsFrom, indexFrom, emptyIndex, Arrays, arrays, hold}
-use Rattle.sheet.specs.CodeLaws.{CodeLimits, AtomLimits, index-within, index-known, index-new}
+use Rattle.encoding.specs.Encoding.{atomCode, position, literalWord, clauseWords, startsFrom, indexFrom, emptyIndex, Arrays, arrays, hold}
+use Rattle.encoding.specs.CodeLaws.{CodeLimits, AtomLimits, index-within, index-known, index-new}
 use Rattle.theory.specs.TableLaws.{enterAll, by-member, enter-known, enter-fresh, enter-different, enter-each, atomsOf, goal-atoms-more, goal-atoms-different, joined-more, enter-all-behind}
-use Rattle.sheet.specs.PositionLaws.{position-behind, literal-word-append, all-words-append}
+use Rattle.encoding.specs.HoldLaws.{Encodable, literal-atom, goal-limits, words-length, starts-length, rules-length}
+use Rattle.encoding.specs.PositionLaws.{position-behind, literal-word-append, all-words-append}
 use Rattle.sheet.specs.ClauseSlotLaws.{word-number, slot-code, slot-sign, SlotsFrom, first-slot, later-slots, slots-limits}
 
 -- ── one entry more ──
@@ -116,35 +117,6 @@ module _ (constants : ℕ) (arities : List ℕ) (limits : CodeLimits constants a
 
 -- ── a problem with one line more ──
 
--- the limits by which the arrays hold a problem's clauses
-pub record Encodable (p : Problem) : Type 0 where
-  pub codes : CodeLimits (p .constants) (p .arities)
-  pub literals : (c : Clause) → c ∈ p .clauses → (l : Literal) → l ∈ c → LiteralLimits p l
-
-pub searchable-encodable : (p : Problem) → Searchable p → Encodable p
-searchable-encodable p h =
-    record {
-      codes = record { few = h .constants; symbols = h .symbols; eachArity = h .eachArity };
-      literals = λ c m. h .eachClause c m .eachLiteral;
-    }
-
-pub limits-encodable : (p : Problem) → Limits p → Encodable p
-limits-encodable p h = searchable-encodable p (limits-searchable p h)
-
-pub literal-atom : (p : Problem) (l : Literal) → LiteralLimits p l → AtomLimits (p .constants) (p .arities) (l .atom)
-literal-atom p l h = record { symbol = h .symbol; declared = h .declared; args = h .args; inRange = h .inRange }
-
-pub goal-limits : (p : Problem) → Encodable p → (a : Atom) → a ∈ goalAtoms (p .clauses) → AtomLimits (p .constants) (p .arities) a
-goal-limits p h a m =
-    let g = goal-from (p .clauses) a m in
-    subst (AtomLimits (p .constants) (p .arities)) (g .atom) (literal-atom p (g .literal) (h .literals (g .clause) (g .its) (g .literal) (g .inside)))
-
-pub words-length : (gs : List Atom) (cs : List Clause) → length (joined (clauseWords gs) cs) ≡ length (joined (λ (c : Clause). c) cs)
-unfolding joined clauseWords
-words-length gs [] = refl
-words-length gs (c ∷ cs) =
-    omega (arith, words-length gs cs, length-map c (literalWord gs), length-append (map (literalWord gs) c) (joined (clauseWords gs) cs), length-append c (joined (λ (x : Clause). x) cs))
-
 -- the counts and the arrays that a clause changes, of a problem that the arrays hold
 abbrev pub enteredOf : Problem → Arrays → Entered
 enteredOf p before =
@@ -228,22 +200,6 @@ starts-more cs c =
     let all = length (joined (λ (x : Clause). x) (cs ++ (c ∷ []))) in
     let e : 0 + all ≡ all = omega arith in
     rw e at (starts-behind 0 cs c)
-
-starts-length : (at : ℕ) (cs : List Clause) → length (startsFrom at cs) ≡ length cs + 1
-unfolding startsFrom
-starts-length at [] = refl
-starts-length at (c ∷ cs) = omega (arith, starts-length (at + length c) cs)
-
-pub rule-length : (r : Rule) → length (ruleWords r) ≡ 22
-unfolding ruleWords
-rule-length r =
-    let ws = slotWords (r .heads ++ r .body) in
-    omega (arith, length-take-le 20 (ws ++ replicate 20 0) (omega (arith, length-append ws (replicate 20 0))))
-
-rules-length : (rs : List Rule) → length (joined ruleWords rs) ≡ 22 * length rs
-unfolding joined
-rules-length [] = refl
-rules-length (r ∷ rs) = omega (arith, length-append (ruleWords r) (joined ruleWords rs), rule-length r, rules-length rs)
 
 -- what the code stores for one line more, in the arrays that it changes
 module _ (p : Problem) (before : Arrays) where
