@@ -5,3 +5,5 @@ pub mod Encoding
 pub mod CodeLaws
 pub mod PositionLaws
 pub mod HoldLaws
+pub mod Values
+pub mod Standing

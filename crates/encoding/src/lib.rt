@@ -1,4 +1,6 @@
-// How a problem stands in arrays: what several crates read and write alike.
+// How a problem and a search stand in arrays: what several crates read and write alike.
+pub mod values; // values.rt: the values of literals
+
 ghost use mathlib.Core.Path.{_≡_};
 ghost use Prim.Native.Nat.{_<_};
 

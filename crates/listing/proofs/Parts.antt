@@ -14,8 +14,8 @@ use Rattle.definitions.specs.Listing.{fieldBytes, lineBytes, narrow, wide, answ
 use Rattle.definitions.specs.declared.Verdict.{Verdict}
 use Rattle.definitions.specs.declared.Verdict.the-variants.{Unsat, Unknown, Spent, Full}
 use Rattle.theory.specs.ListLaws.{joined-append}
-use Rattle.search.specs.Units.{clauseAt}
-use Rattle.search.specs.StoreLaws.{starts-rise}
+use Rattle.units.specs.Units.{clauseAt}
+use Rattle.log.specs.StoreLaws.{starts-rise}
 use Rattle.search.specs.declared.Run.{Run}
 use Rattle.listing.specs.Puts.{Parts}
 use Rattle.listing.specs.Lines.{columnBytes, rowBytes, codeSymbol, codeConstant, constantNumber, codeNumbers, wordNumbers, loggedNumbers, loggedBytes, logBytes, settingBytes, settingsBytes, countBytes, listingBytes, ClausesListable}

@@ -12,7 +12,7 @@ use Rattle.definitions.specs.Sheet.{plus}
 use Rattle.definitions.specs.Listing.{literalNumbers}
 use Rattle.encoding.specs.Encoding.{place, atomCode}
 use Rattle.encoding.specs.CodeLaws.{CodeLimits, AtomLimits, arity-at-most, argument-at}
-use Rattle.search.specs.PlaceLaws.{getElem-in}
+use Rattle.theory.specs.PlaceLaws.{getElem-in}
 use Rattle.listing.specs.Lines.{codeSymbol, codeConstant, constantNumber, codeNumbers}
 use Rattle.listing.specs.JoinedLaws.{front-at, map-places}
 

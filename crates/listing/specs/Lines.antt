@@ -9,7 +9,7 @@ use Rattle.definitions.specs.Sheet.{Number, plus}
 use Rattle.definitions.specs.Listing.{fieldBytes, lineBytes, narrow, wide, answerNumber}
 use Rattle.definitions.specs.declared.Verdict.{Verdict}
 use Rattle.definitions.specs.declared.Verdict.the-variants.{Unsat, Unknown, Spent, Full}
-use Rattle.search.specs.Units.{clauseAt}
+use Rattle.units.specs.Units.{clauseAt}
 use Rattle.search.specs.declared.Run.{Run}
 
 -- the bytes of columns of 4 bytes

@@ -24,10 +24,10 @@ use Rattle.encoding.specs.PositionLaws.{position-inside, position-injective}
 use Rattle.encoding.specs.HoldLaws.{searchable-encodable}
 use Rattle.encoding.specs.Signs.{numberOf}
 use Rattle.encoding.specs.Signs.{number-word}
-use Rattle.search.specs.Standing.{truth}
-use Rattle.search.specs.UnitLaws.{Consistent, truth-true, truth-false, truth-unset, by-truth}
-use Rattle.search.specs.LogHolds.{plain-limits}
-use Rattle.search.specs.PlaceLaws.{getElem-in, getElem-of}
+use Rattle.encoding.specs.Standing.{truth}
+use Rattle.units.specs.UnitLaws.{Consistent, truth-true, truth-false, truth-unset, by-truth}
+use Rattle.log.specs.LogHolds.{plain-limits}
+use Rattle.theory.specs.PlaceLaws.{getElem-in, getElem-of}
 use Rattle.search.specs.declared.Ended.{Ended}
 use Rattle.listing.specs.Lines.{rowBytes, columnBytes, codeNumbers, wordNumbers, loggedNumbers, loggedBytes, logBytes, settingBytes, settingsBytes, countBytes, listingBytes, ClausesListable}
 use Rattle.listing.specs.Finished.{Finished}

@@ -14,10 +14,10 @@ use Rattle.theory.specs.Invariants.{Sound}
 use Rattle.encoding.specs.Encoding.{Arrays, emptyIndex, sizesOf, hold}
 use Rattle.encoding.specs.declared.Sizes.{Sizes}
 use Rattle.encoding.specs.Slots.{ruleWords}
-use Rattle.search.specs.TrailWords.{TrailStands}
-use Rattle.search.specs.TrailLaws.{Room}
-use Rattle.search.specs.Logging.{Log}
-use Rattle.search.specs.LogHolds.{LogHolds}
+use Rattle.units.specs.TrailWords.{TrailStands}
+use Rattle.units.specs.TrailLaws.{Room}
+use Rattle.log.specs.Logging.{Log}
+use Rattle.log.specs.LogHolds.{LogHolds}
 use Rattle.search.specs.declared.Run.{Run}
 use Rattle.search.specs.declared.Ended.{Ended}
 use Rattle.search.specs.declared.Next.{Next}

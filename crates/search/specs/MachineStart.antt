@@ -16,10 +16,10 @@ use Rattle.theory.specs.Invariants.{Sound, start-sound}
 use Rattle.encoding.specs.Slots.{ruleWords}
 use Rattle.encoding.specs.Encoding.{emptyIndex, Arrays, hold}
 use Rattle.encoding.specs.HoldLaws.{rule-length}
-use Rattle.search.specs.TrailLaws.{start-stands}
-use Rattle.search.specs.PlaceLaws.{joined-size}
-use Rattle.search.specs.StoreLaws.{sets-start-take}
-use Rattle.search.specs.LogStart.{start-holds}
+use Rattle.units.specs.TrailLaws.{start-stands}
+use Rattle.theory.specs.PlaceLaws.{joined-size}
+use Rattle.log.specs.StoreLaws.{sets-start-take}
+use Rattle.log.specs.LogStart.{start-holds}
 use Rattle.search.specs.Machine.{machine, Stands, RulesStand}
 
 -- the rules stand first in their array

@@ -6,15 +6,15 @@ use mathlib.Core.List.{List}
 use lib.Dec.{eqb, leb}
 use lib.ListN.{getD, set, take, drop}
 use Rattle.definitions.specs.declared.Verdict.the-variants.{Unsat, Unknown, Spent, Full}
-use Rattle.search.specs.Units.{actFrom}
-use Rattle.search.specs.TrailWords.{latestDecision, cleared, firstUnset}
+use Rattle.units.specs.Units.{actFrom}
+use Rattle.units.specs.TrailWords.{latestDecision, cleared, firstUnset}
 use Rattle.walk.specs.Walk.{ruleVariables, fillingOf, walkFrom}
-use Rattle.search.specs.Logging.{Log, logUnder}
+use Rattle.log.specs.Logging.{Log, logUnder}
 use Rattle.search.specs.Machine.{Machine, machine, logIn}
 use Rattle.search.specs.declared.Run.{Run}
 use Rattle.search.specs.declared.Next.{Next}
 use Rattle.search.specs.declared.Next.the-variants.{More, Done}
-use Rattle.search.specs.declared.Act.the-variants.{Conflict, Force, Nothing}
+use Rattle.units.specs.declared.Act.the-variants.{Conflict, Force, Nothing}
 use Rattle.walk.specs.declared.Found.the-variants.{Instance, Nowhere}
 
 -- what a step answers, and the arrays afterwards

@@ -20,15 +20,16 @@ use Rattle.theory.specs.Choices.{choiceWorld, inv-act}
 use Rattle.theory.specs.Unknown.{consistent}
 use Rattle.theory.specs.Ends.{Fits, step-fits}
 use Rattle.encoding.specs.Encoding.{position, literalWord}
-use Rattle.walk.specs.Values.{valueOf}
-use Rattle.search.specs.Units.{actFrom}
-use Rattle.search.specs.Standing.{truth, actWord}
-use Rattle.search.specs.UnitLaws.{Consistent, value-truth, act-stands}
-use Rattle.search.specs.TrailWords.{latestDecision, firstUnset, TrailStands}
-use Rattle.search.specs.TrailLaws.{DecidedTrue, backtrack-none-zero, Backtracked, backtrack-stands, first-unset-some, first-unset-none}
+use Rattle.encoding.specs.Values.{valueOf}
+use Rattle.units.specs.Units.{actFrom}
+use Rattle.encoding.specs.Standing.{truth}
+use Rattle.units.specs.ClausesStand.{actWord}
+use Rattle.units.specs.UnitLaws.{Consistent, value-truth, act-stands}
+use Rattle.units.specs.TrailWords.{latestDecision, firstUnset, TrailStands}
+use Rattle.units.specs.TrailLaws.{DecidedTrue, backtrack-none-zero, Backtracked, backtrack-stands, first-unset-some, first-unset-none}
 use Rattle.walk.specs.Walk.{walkFrom}
-use Rattle.search.specs.WalkStands.{WalkAs, walk-stands}
-use Rattle.search.specs.LogHolds.{holds-index}
+use Rattle.walk.specs.WalkStands.{WalkAs, walk-stands}
+use Rattle.log.specs.LogHolds.{holds-index}
 use Rattle.search.specs.Machine.{Machine, logIn, Stands, RulesStand}
 use Rattle.search.specs.declared.Run.{Run}
 

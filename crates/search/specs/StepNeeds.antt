@@ -16,19 +16,19 @@ use Rattle.theory.specs.Tests.{by-test, by-option, apart, none≢some, not-true
 use Rattle.theory.specs.ListLaws.{all-each}
 use Rattle.encoding.specs.Encoding.{literalWord}
 use Rattle.encoding.specs.CodeLaws.{index-within}
-use Rattle.search.specs.Units.{actFrom, ClausesFit}
-use Rattle.search.specs.Standing.{actWord}
-use Rattle.search.specs.TrailWords.{latestDecision, firstUnset}
-use Rattle.search.specs.LiteralWords.{word-small}
-use Rattle.search.specs.TrailLaws.{words-small}
+use Rattle.units.specs.Units.{actFrom, ClausesFit}
+use Rattle.units.specs.ClausesStand.{actWord}
+use Rattle.units.specs.TrailWords.{latestDecision, firstUnset}
+use Rattle.units.specs.LiteralWords.{word-small}
+use Rattle.units.specs.TrailLaws.{words-small}
 use Rattle.walk.specs.Walk.{codeUnder, trueUnder, headSlots, ruleVariables, fillingOf, firesUnder, firesAt, firstFrom, fillingCount, walkFrom, RulesFit, IndexFits}
-use Rattle.search.specs.RuleLaws.{rules-fit}
-use Rattle.search.specs.Logging.{LogFits}
-use Rattle.search.specs.LogLaws.{found-below, fewer-fit}
+use Rattle.walk.specs.RuleStands.{rules-fit}
+use Rattle.log.specs.Logging.{LogFits}
+use Rattle.log.specs.LogLaws.{found-below, fewer-fit}
 use Rattle.search.specs.Machine.{Machine, logIn, Stands, Running}
 use Rattle.search.specs.StandsLaws.{room-for, act-as, unit-unset, back-none, back-some, goal-unset, goal-none, goal-some}
 use Rattle.search.specs.declared.Run.{Run}
-use Rattle.search.specs.declared.Act.the-variants.{Force, Nothing}
+use Rattle.units.specs.declared.Act.the-variants.{Force, Nothing}
 use Rattle.walk.specs.declared.Found.the-variants.{Instance}
 
 -- a word is forced where a literal is

@@ -22,18 +22,19 @@ use Rattle.theory.specs.Counts.{step-counts}
 use Rattle.theory.specs.Invariants.{step-sound}
 use Rattle.encoding.specs.Slots.{ruleWords}
 use Rattle.encoding.specs.Encoding.{position, literalWord}
-use Rattle.walk.specs.Values.{valueOf}
-use Rattle.search.specs.Standing.{truth, actWord}
-use Rattle.search.specs.TrailWords.{markOf, latestDecision, cleared, firstUnset, TrailStands}
-use Rattle.search.specs.LiteralWords.{word-plain}
-use Rattle.search.specs.Stacks.{length-cleared}
-use Rattle.search.specs.TrailLaws.{room-kept, set-stands, zero-backtrack-none, grown-stands}
+use Rattle.encoding.specs.Values.{valueOf}
+use Rattle.encoding.specs.Standing.{truth}
+use Rattle.units.specs.ClausesStand.{actWord}
+use Rattle.units.specs.TrailWords.{markOf, latestDecision, cleared, firstUnset, TrailStands}
+use Rattle.units.specs.LiteralWords.{word-plain}
+use Rattle.units.specs.Stacks.{length-cleared}
+use Rattle.units.specs.TrailLaws.{room-kept, set-stands, zero-backtrack-none, grown-stands}
 use Rattle.walk.specs.Walk.{walkFrom}
-use Rattle.search.specs.RuleLaws.{rule-variables}
-use Rattle.search.specs.WalkStands.{WalkAs}
-use Rattle.search.specs.Logging.{Log, logOf}
-use Rattle.search.specs.LogHolds.{LogHolds}
-use Rattle.search.specs.LogStands.{logged-full, logged-stands}
+use Rattle.walk.specs.RuleStands.{rule-variables}
+use Rattle.walk.specs.WalkStands.{WalkAs}
+use Rattle.log.specs.Logging.{Log, logOf}
+use Rattle.log.specs.LogHolds.{LogHolds}
+use Rattle.log.specs.LogStands.{logged-full, logged-stands}
 use Rattle.search.specs.Machine.{Machine, logIn, Stands, StandsAtEnd, RulesStand, NextStands}
 use Rattle.search.specs.MachineSteps.{Stepped, stepped, setAt, undoFrom, withLog, oneSet, oneDecided, oneConflict, oneLogged, flipAt, conflictStep, unitStep, instanceStep, decideStep, goalStep, machineStep}
 use Rattle.search.specs.StandsLaws.{literal-value, true-known, room-for, act-as, unit-unset, back-none, back-some, walk-as, goal-unset, goal-none, goal-some}

@@ -26,7 +26,7 @@ use Rattle.encoding.specs.declared.Sizes.{Sizes}
 use Rattle.sheet.specs.declared.Read.{Read}
 use Rattle.sheet.specs.declared.Read.the-variants as Read
 use Rattle.sheet.specs.declared.Read.the-variants.{Accepted}
-use Rattle.search.specs.StoreLaws.{sets-start-at}
+use Rattle.log.specs.StoreLaws.{sets-start-at}
 use Rattle.search.specs.Machine.{machine, StandsAtEnd, EndStands, Loaded}
 use Rattle.search.specs.Loading.{accepted-loaded}
 use Rattle.search.specs.declared.Ended.{Ended}

@@ -23,3 +23,4 @@ pub mod Sizes
 pub mod Demand3
 pub mod Theorems
 pub mod Quiet
+pub mod PlaceLaws

@@ -3,6 +3,5 @@ pub mod FillingLaws
 pub mod FiringLaws
 pub mod MaskTurns
 pub mod SlotLaws
-pub mod ValueLaws
 pub mod VariableLaws
 pub mod WalkTurns

@@ -1,4 +1,3 @@
-pub mod Values
 pub mod Walk
 pub mod Skips
 pub mod WalkLaws
@@ -14,3 +13,6 @@ pub mod Pruned
 pub mod Numbered
 pub mod CandidateLaws
 pub mod MaskedWalkLaws
+pub mod Substitutions
+pub mod RuleStands
+pub mod WalkStands

@@ -1,0 +1,24 @@
+-- How the values and the index stand for a trail and a table. Assumes nothing.
+use Prim.Native.Nat.{ℕ, suc}
+use mathlib.Core.Path.{_≡_}
+use mathlib.Core.Bool.{true, false}
+use mathlib.Core.List.{List}
+use lib.ListN.{getD}
+use Rattle.definitions.specs.Lists.{_∈_}
+use Rattle.definitions.specs.Words.{Atom, Literal, plain, Problem}
+use Rattle.definitions.specs.Search.{Trail, isTrue, isFalse}
+use Rattle.theory.specs.Limits.{LiteralLimits}
+use Rattle.encoding.specs.Encoding.{atomCode, position}
+
+-- a literal's truth as a value: 1 true, 2 false, 0 unset
+unfoldable pub truth : Trail → Literal → ℕ
+truth t l = elim (isTrue t l) [ true ↦ 1 | false ↦ elim (isFalse t l) [ true ↦ 2 | false ↦ 0 ] ]
+
+-- the values are those of the trail, for every atom of the table
+abbrev pub Valued : List Atom → Trail → List ℕ → Type 0
+Valued table t values = (a : Atom) → a ∈ table → getD values (position table a) 0 ≡ truth t (plain a)
+
+-- the index finds every atom of the sheet's symbols and constants that is in the table, and no other
+pub record IndexStands (p : Problem) (table : List Atom) (index : List ℕ) : Type 0 where
+  pub inside : (a : Atom) → LiteralLimits p (plain a) → a ∈ table → getD index (atomCode a) 0 ≡ suc (position table a)
+  pub outside : (a : Atom) → LiteralLimits p (plain a) → (a ∈ table → ⊥) → getD index (atomCode a) 0 ≡ 0

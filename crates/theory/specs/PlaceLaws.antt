@@ -1,0 +1,161 @@
+-- Lists by place: the element at a place, rising numbers, words joined in equal lengths, lists that agree place by place, and
+-- kept and first elements. Assumes nothing.
+use Prim.Native.Nat.{ℕ, zero, suc, _+_, _*_, _<_}
+use mathlib.Core.Path.{_≡_, refl, sym, ap, _∙_}
+use mathlib.Core.Bool.{Bool}
+use mathlib.Core.Option.{none, some}
+use mathlib.Core.List.{List, [], _∷_, _++_, map, List·Memᴰ·head, List·Memᴰ·tail}
+use native.Mathlib.Omega.{arith}
+use lib.ListN.{length, getD, getElem?, length-append, List·getD-append}
+use lib.Seq.{getD-append-add}
+use Rattle.definitions.specs.Lists.{_∈_, isEmpty, any, all, keep, firstOf, joined, allDifferent, upFrom}
+use Rattle.theory.specs.Tests.{by-test, apart, none≢some, some-injective}
+use Rattle.theory.specs.ListLaws.{keep-in, Different}
+use Rattle.theory.specs.InstanceLaws.{upFrom-in}
+
+-- ── the element at a place ──
+
+-- an element that is found stands in the list, and each place below the length has one
+pub getElem-in : {A : Type 0} (l : List A) (i : ℕ) (x : A) → getElem? l i ≡ some x → (i < length l) × (x ∈ l)
+getElem-in [] i x e = none≢some e
+getElem-in (y ∷ l) zero x e = (omega arith, List·Memᴰ·head (sym (some-injective e)))
+getElem-in (y ∷ l) (suc i) x e = let (h, m) = getElem-in l i x e in (omega arith, List·Memᴰ·tail m)
+
+pub getElem-of : {A : Type 0} (l : List A) (i : ℕ) → i < length l → (x : A) × (getElem? l i ≡ some x)
+getElem-of [] i h = absurd (omega arith)
+getElem-of (y ∷ l) zero h = (y, refl)
+getElem-of (y ∷ l) (suc i) h = getElem-of l i (omega arith)
+
+pub getElem-left : {A : Type 0} (xs ys : List A) (i : ℕ) (x : A) → getElem? xs i ≡ some x → getElem? (xs ++ ys) i ≡ some x
+getElem-left [] ys i x e = none≢some e
+getElem-left (y ∷ xs) ys zero x e = e
+getElem-left (y ∷ xs) ys (suc i) x e = getElem-left xs ys i x e
+
+pub getElem-right : {A : Type 0} (xs ys : List A) (i : ℕ) → getElem? (xs ++ ys) (length xs + i) ≡ getElem? ys i
+getElem-right [] ys i = let here : 0 + i ≡ i = omega arith in cc
+getElem-right (x ∷ xs) ys i = let behind : suc (length xs) + i ≡ suc (length xs + i) = omega arith in cc (getElem-right xs ys i)
+
+pub getD-in : {A : Type 0} (l : List A) (i : ℕ) (d : A) → i < length l → getD l i d ∈ l
+getD-in [] i d h = absurd (omega arith)
+getD-in (x ∷ l) zero d h = List·Memᴰ·head refl
+getD-in (x ∷ l) (suc i) d h = List·Memᴰ·tail (getD-in l i d (omega arith))
+
+-- ── rising numbers ──
+
+pub upFrom-append : (a m k : ℕ) → upFrom a (m + k) ≡ upFrom a m ++ upFrom (a + m) k
+unfolding upFrom
+upFrom-append a zero k = let size : 0 + k ≡ k = omega arith in let next : a + 0 ≡ a = omega arith in cc
+upFrom-append a (suc m) k =
+    let size : suc m + k ≡ suc (m + k) = omega arith in
+    let next : suc a + m ≡ a + suc m = omega arith in
+    cc (upFrom-append (suc a) m k)
+
+-- two functions that agree along two ranges
+pub map-upFrom : {A : Type 0} (g h : ℕ → A) (a b k : ℕ) → ((j : ℕ) → j < k → g (a + j) ≡ h (b + j)) → map g (upFrom a k) ≡ map h (upFrom b k)
+unfolding upFrom
+map-upFrom g h a b zero e = refl
+map-upFrom g h a b (suc k) e =
+    let a0 : a + 0 ≡ a = omega arith in
+    let b0 : b + 0 ≡ b = omega arith in
+    cc (e 0 (omega arith), map-upFrom g h (suc a) (suc b) k later)
+  where
+    later : (j : ℕ) → j < k → g (suc a + j) ≡ h (suc b + j)
+    later j l =
+        let aj : suc a + j ≡ a + suc j = omega arith in
+        let bj : suc b + j ≡ b + suc j = omega arith in
+        cc (e (suc j) (omega arith))
+
+-- rising numbers differ, and so do those that are kept of them
+pub upFrom-different : (a k : ℕ) → Different (upFrom a k)
+unfolding upFrom
+upFrom-different a zero = tt
+upFrom-different a (suc k) = (λ m. omega (arith, upFrom-in (suc a) k a m .0), upFrom-different (suc a) k)
+
+pub keep-different : {A : Type 0} (p : A → Bool) (xs : List A) → Different xs → Different (keep p xs)
+unfolding keep
+keep-different p [] d = tt
+keep-different p (x ∷ xs) d =
+    by-test (p x)
+    (λ e. rw (e, keep) (λ m. d .0 (keep-in p xs x m .0), keep-different p xs (d .1)))
+    (λ e. rw (e, keep) (keep-different p xs (d .1)))
+
+-- ── joined lists ──
+
+-- lists of equally many words
+module _ {A : Type 0} (f : A → List ℕ) (w : ℕ) (size : (x : A) → length (f x) ≡ w) where
+  pub joined-size : (xs : List A) → length (joined f xs) ≡ w * length xs
+  unfolding joined
+  joined-size [] = omega arith
+  joined-size (x ∷ xs) = omega (arith, length-append (f x) (joined f xs), size x, joined-size xs)
+
+  pub joined-at : (xs : List A) (i : ℕ) (x : A) → getElem? xs i ≡ some x → (j : ℕ) → j < w → getD (joined f xs) (w * i + j) 0 ≡ getD (f x) j 0
+  unfolding joined
+  joined-at [] i x e j h = none≢some e
+  joined-at (y ∷ ys) zero x e j h =
+      let at : w * 0 + j ≡ j = omega arith in
+      cc (List·getD-append (f y) (joined f ys) 0 j (omega (arith, size y)), some-injective e)
+  joined-at (y ∷ ys) (suc i) x e j h =
+      let at : w * suc i + j ≡ length (f y) + (w * i + j) = omega (arith, size y) in
+      ap (λ (k : ℕ). getD (f y ++ joined f ys) k 0) at ∙ getD-append-add (f y) (joined f ys) (w * i + j) 0 ∙ joined-at ys i x e j h
+
+-- ── lists that agree place by place ──
+
+-- tests that agree on related elements agree on lists of such elements
+module _ {A B : Type 0} (R : A → B → Type 0) where
+  abbrev pub Alike : List A → List B → Type 0
+  Alike [] [] = Unit {0}
+  Alike [] (y ∷ ys) = ⊥
+  Alike (x ∷ xs) [] = ⊥
+  Alike (x ∷ xs) (y ∷ ys) = R x y × Alike xs ys
+
+  pub isEmpty-alike : (xs : List A) (ys : List B) → Alike xs ys → isEmpty xs ≡ isEmpty ys
+  unfolding isEmpty
+  isEmpty-alike [] [] h = refl
+  isEmpty-alike [] (y ∷ ys) h = absurd h
+  isEmpty-alike (x ∷ xs) [] h = absurd h
+  isEmpty-alike (x ∷ xs) (y ∷ ys) h = refl
+
+  module _ (f : A → Bool) (g : B → Bool) (same : (x : A) (y : B) → R x y → f x ≡ g y) where
+    pub any-alike : (xs : List A) (ys : List B) → Alike xs ys → any f xs ≡ any g ys
+    unfolding any
+    any-alike [] [] h = refl
+    any-alike [] (y ∷ ys) h = absurd h
+    any-alike (x ∷ xs) [] h = absurd h
+    any-alike (x ∷ xs) (y ∷ ys) h = cc (same x y (h .0), any-alike xs ys (h .1))
+
+    pub all-alike : (xs : List A) (ys : List B) → Alike xs ys → all f xs ≡ all g ys
+    unfolding all
+    all-alike [] [] h = refl
+    all-alike [] (y ∷ ys) h = absurd h
+    all-alike (x ∷ xs) [] h = absurd h
+    all-alike (x ∷ xs) (y ∷ ys) h = cc (same x y (h .0), all-alike xs ys (h .1))
+
+  pub allDifferent-alike : (f : A → A → Bool) (g : B → B → Bool) → ((x x′ : A) (y y′ : B) → R x y → R x′ y′ → f x x′ ≡ g y y′)
+      → (xs : List A) (ys : List B) → Alike xs ys → allDifferent f xs ≡ allDifferent g ys
+  unfolding allDifferent
+  allDifferent-alike f g same [] [] h = refl
+  allDifferent-alike f g same [] (y ∷ ys) h = absurd h
+  allDifferent-alike f g same (x ∷ xs) [] h = absurd h
+  allDifferent-alike f g same (x ∷ xs) (y ∷ ys) h =
+      cc (any-alike (f x) (g y) (λ x′ y′ k. same x x′ y y′ (h .0) k) xs ys (h .1), allDifferent-alike f g same xs ys (h .1))
+
+-- ── kept and first elements ──
+
+pub keep-alike : {A : Type 0} (f g : A → Bool) (xs : List A) → ((x : A) → x ∈ xs → f x ≡ g x) → keep f xs ≡ keep g xs
+unfolding keep
+keep-alike f g [] h = refl
+keep-alike f g (x ∷ xs) h =
+    let here = h x (List·Memᴰ·head refl) in
+    let rest = keep-alike f g xs (λ y m. h y (List·Memᴰ·tail m)) in
+    by-test (g x) (λ e. cc) (λ e. cc)
+
+module _ {A : Type 0} (passes : A → Bool) where
+  pub firstOf-append-some : (xs ys : List A) (x : A) → firstOf passes xs ≡ some x → firstOf passes (xs ++ ys) ≡ some x
+  unfolding firstOf
+  firstOf-append-some [] ys x e = none≢some e
+  firstOf-append-some (z ∷ xs) ys x e = by-test (passes z) (λ h. cc) (λ h. cc (firstOf-append-some xs ys x (cc)))
+
+  pub firstOf-append-none : (xs ys : List A) → firstOf passes xs ≡ none → firstOf passes (xs ++ ys) ≡ firstOf passes ys
+  unfolding firstOf
+  firstOf-append-none [] ys e = refl
+  firstOf-append-none (z ∷ xs) ys e = by-test (passes z) (λ h. apart (cc)) (λ h. cc (firstOf-append-none xs ys (cc)))

@@ -1,0 +1,3 @@
+pub mod ScanTurns
+pub mod TrailTurns
+pub mod UnitTurns

@@ -1,0 +1,140 @@
+-- Step A in the code's terms: the loop over a logged clause's heads, what may be set, and the loop over the clauses. Assumes nothing.
+use Prim.Native.Nat.{ℕ, zero, suc, _+_, _-_, _*_, _≤_, _<_}
+use mathlib.Core.Path.{_≡_, sym, _∙_, ap}
+use mathlib.Core.Bool.{Bool, true, false, _&&_}
+use mathlib.Core.List.{List}
+use native.Mathlib.Omega.{arith}
+use lib.Dec.{eqb}
+use lib.ListN.{length, getD, take, drop}
+use borrow.Author.Tests.{eq-eqb, ne-eqb, lt-ltb, le-ltb}
+use Rattle.definitions.specs.Lists.{all}
+use Rattle.encoding.specs.Values.{valueOf}
+use Rattle.units.specs.Scan.{look}
+use Rattle.units.specs.Units.{clauseAt, maySet, actAt, actFrom, ClausesFit}
+use Rattle.units.specs.UnitLaws.{allFalse}
+use Rattle.units.specs.declared.Seen.{Seen}
+use Rattle.units.specs.declared.Seen.the-variants.{AllFalse, One, Open}
+use Rattle.units.specs.declared.Act.{Act}
+use Rattle.units.specs.declared.Act.the-variants.{Conflict, Force, Nothing}
+use Rattle.units.proofs.ScanTurns.{part-cons, part-nil}
+
+-- ── the loop over words ──
+
+pub false-start : (values words : List ℕ) (from count : ℕ)
+    → allFalse values (take (from + count - from) (drop from words)) ≡ allFalse values (take count (drop from words))
+false-start values words from count = let e : from + count - from ≡ count = omega arith in rw e
+
+module _ (values words : List ℕ) (end i : ℕ) {b : Bool} (left : allFalse values (take (end - i) (drop i words)) ≡ b) where
+  module _ (less : i < end) (fits : end ≤ length words) {v : ℕ} (value : v ≡ valueOf values (getD words i 0)) where
+    first : (eqb v 2 && allFalse values (take (end - (i + 1)) (drop (i + 1) words))) ≡ b
+    unfolding all
+    first = rw value (sym (ap (allFalse values) (part-cons words end i less fits)) ∙ left)
+
+    pub false-turn : v ≡ 2 → allFalse values (take (end - (i + 1)) (drop (i + 1) words)) ≡ b
+    false-turn e = rw (eq-eqb v 2 e) at first
+
+    pub false-hit : (v ≡ 2 → ⊥) → false ≡ b
+    false-hit n = rw (ne-eqb v 2 n) at first
+
+  pub false-end : end ≤ i → true ≡ b
+  unfolding all
+  false-end h = cc (part-nil words end i h)
+
+-- ── what the callees ask for ──
+
+-- the first of the clauses fit too
+module _ {starts literals heads : List ℕ} {given : ℕ} where
+  rises : {n : ℕ} → ClausesFit starts literals heads given n → (m k : ℕ) → m + k ≤ n → getD starts m 0 ≤ getD starts (m + k) 0
+  rises f m zero h = let e : m + 0 ≡ m = omega arith in rw e (omega arith)
+  rises f m (suc k) h =
+      let e : m + suc k ≡ m + k + 1 = omega arith in
+      rw e (omega (arith, rises f m k (omega arith), f .rising (m + k) (omega arith)))
+
+  pub fit-first : (n m : ℕ) → m ≤ n → ClausesFit starts literals heads given n → ClausesFit starts literals heads given m
+  fit-first n m h f =
+      let e : m + (n - m) ≡ n = omega arith in
+      let up : getD starts m 0 ≤ getD starts n 0 = rw e at (rises f m (n - m) (omega arith)) in
+      record {
+        few = omega (arith, f .few);
+        limit = omega (arith, f .limit);
+        rising = λ c l. f .rising c (omega arith);
+        inside = λ c l. f .inside c (omega arith);
+        words = λ i l. f .words i (omega arith);
+        heads-inside = λ c l k. f .heads-inside c l (omega arith);
+      }
+
+  module _ (c : ℕ) {from : ℕ} (f : ClausesFit starts literals heads given (c + 1)) (from-is : from ≡ getD starts c 0) where
+    pub clause-fits : {end : ℕ} → end ≡ getD starts (c + 1) 0
+        → (from ≤ end) × (end ≤ 2568) × ((i : ℕ) → i < end → getD literals i 0 < 512)
+    clause-fits e = (omega (arith, f .rising c (omega arith)), omega (arith, f .inside (c + 1) (omega arith)), λ i l. f .words i (omega arith))
+
+    pub heads-fit : {count : ℕ} → given ≤ c → count ≡ getD heads (c - given) 0
+        → (from + count ≤ 2568) × ((i : ℕ) → i < from + count → getD literals i 0 < 512)
+    heads-fit l e =
+        let h : getD starts c 0 + getD heads (c - given) 0 ≤ getD starts (c + 1) 0 = f .heads-inside c l (omega arith) in
+        (omega (arith, f .inside (c + 1) (omega arith)), λ i k. f .words i (omega arith))
+
+-- ── what clause c asks for ──
+
+module _ (values starts literals heads : List ℕ) (given goals c : ℕ) where
+  -- what it may set
+  module _ (w : ℕ) {word : ℕ} (same : word ≡ w) where
+    pub may-goal : word < 2 * goals → true ≡ maySet values starts literals heads given goals c w
+    unfolding maySet
+    may-goal h = cc (lt-ltb w (2 * goals) (omega arith))
+
+    pub may-not : 2 * goals ≤ word → c < given → false ≡ maySet values starts literals heads given goals c w
+    unfolding maySet
+    may-not h l = cc (le-ltb w (2 * goals) (omega arith), lt-ltb c given l)
+
+    pub may-heads : {from count : ℕ} {r : Bool} → 2 * goals ≤ word → given ≤ c → from ≡ getD starts c 0 → count ≡ getD heads (c - given) 0
+        → r ≡ allFalse values (take count (drop from literals)) → r ≡ maySet values starts literals heads given goals c w
+    unfolding maySet
+    may-heads h l e f q = cc (le-ltb w (2 * goals) (omega arith), le-ltb c given l)
+
+  module _ {from end : ℕ} {seen : Seen} (from-is : from ≡ getD starts c 0) (end-is : end ≡ getD starts (c + 1) 0)
+      (looks : seen ≡ look values (take (end - from) (drop from literals))) where
+    pub act-conflict : seen ≡ AllFalse → Conflict ≡ actAt values starts literals heads given goals c
+    unfolding actAt clauseAt
+    act-conflict e = cc
+
+    pub act-force : (w : ℕ) {b : Bool} → seen ≡ One w → b ≡ maySet values starts literals heads given goals c w → b ≡ true
+        → Force w ≡ actAt values starts literals heads given goals c
+    unfolding actAt clauseAt
+    act-force w e m h = cc
+
+    pub act-not : (w : ℕ) {b : Bool} → seen ≡ One w → b ≡ maySet values starts literals heads given goals c w → b ≡ false
+        → Nothing ≡ actAt values starts literals heads given goals c
+    unfolding actAt clauseAt
+    act-not w e m h = cc
+
+    pub act-open : seen ≡ Open → Nothing ≡ actAt values starts literals heads given goals c
+    unfolding actAt clauseAt
+    act-open e = cc
+
+-- ── the loop over the clauses ──
+
+module _ (values starts literals heads : List ℕ) (given goals : ℕ) where
+  pub act-start : (n : ℕ) → actFrom values starts literals heads given goals 0 (n - 0) ≡ actFrom values starts literals heads given goals 0 n
+  act-start n = let e : n - 0 ≡ n = omega arith in rw e
+
+  module _ (c n : ℕ) {x : Act} (left : actFrom values starts literals heads given goals c (n - c) ≡ x) where
+    module _ (less : c < n) {a : Act} (does : a ≡ actAt values starts literals heads given goals c) where
+      pub act-turn : a ≡ Nothing → actFrom values starts literals heads given goals (c + 1) (n - (c + 1)) ≡ x
+      unfolding actFrom
+      act-turn e =
+          let f : n - c ≡ suc (n - (c + 1)) = omega arith in
+          let g : c + 1 ≡ suc c = omega arith in
+          cc
+
+      pub act-hit : a ≡ Conflict → Conflict ≡ x
+      unfolding actFrom
+      act-hit e = let f : n - c ≡ suc (n - (c + 1)) = omega arith in cc
+
+      pub act-hit-force : (w : ℕ) → a ≡ Force w → Force w ≡ x
+      unfolding actFrom
+      act-hit-force w e = let f : n - c ≡ suc (n - (c + 1)) = omega arith in cc
+
+    pub act-end : n ≤ c → Nothing ≡ x
+    unfolding actFrom
+    act-end h = let f : n - c ≡ 0 = omega arith in cc

@@ -1,0 +1,134 @@
+// Step A and the trail. Step A takes the first clause, goal clauses and then the log, that is a conflict or sets its one unset literal.
+mod scan; // scan.rt: what a clause's literals say
+pub mod trail; // trail.rt: setting and undoing
+
+ghost use mathlib.Core.Path.{_≡_};
+ghost use Prim.Native.Nat.{ℕ, _+_, _≤_, _<_};
+ghost use lib.Dec.{eqb};
+ghost use lib.ListN.{getD, take, drop};
+ghost use Rattle.definitions.specs.Lists.{all};
+ghost use Rattle.encoding.specs.Values.{valueOf};
+ghost use Rattle.units.specs.Units.{maySet, actAt, actFrom, ClausesFit};
+use encoding::values;
+
+// What the literals of a clause say so far: all false; one unset, the others false; a true one or two unset ones.
+pub enum Seen {
+    AllFalse,
+    One(u16),
+    Open,
+}
+
+// What step A comes to.
+pub enum Act {
+    Conflict,
+    Force(u16),
+    Nothing,
+}
+
+// Whether so many words from a place on are all false.
+fn all_false(values: &[u8; 256], literals: &[u16; 2568], from: usize, count: usize) -> bool
+    requires { ⌜ (from + count ≤ 2568) × ((i : ℕ) → i < from + count → getD (now literals) i 0 < 512) ⌝ }
+    ensures { λ r. ⌜ r ≡ all (λ (x : ℕ). eqb (valueOf (now (values .entry)) x) 2) (take count (drop from (now (literals .entry)))) ⌝ }
+{
+    let words: &[u16] = literals; // the proof knows a slice's length
+    let end = from + count;
+    let mut i = from;
+    while i < end {
+        let w = words[i];
+        let v = values::value(values, w);
+        if v != 2 {
+            return false;
+        }
+        i += 1;
+    }
+    true
+}
+
+fn wide8(x: u8) -> usize
+    ensures { λ r. ⌜ (r ≡ x) × (r < 256) ⌝ }
+{
+    x as usize
+}
+
+// Whether clause c may set the literal.
+fn may_set(
+    values: &[u8; 256],
+    starts: &[u16; 578],
+    literals: &[u16; 2568],
+    heads: &[u8; 512],
+    given: usize,
+    goals: usize,
+    c: usize,
+    w: u16,
+) -> bool
+    requires { ⌜ (goals ≤ 256) × ClausesFit (now starts) (now literals) (now heads) given (c + 1) ⌝ }
+    ensures { λ r. ⌜ r ≡ maySet (now (values .entry)) (now (starts .entry)) (now (literals .entry)) (now (heads .entry)) given goals c w ⌝ }
+{
+    if encoding::wide(w) < 2 * goals {
+        return true;
+    }
+    if c < given {
+        return false;
+    }
+    let i = c - given;
+    let from = encoding::wide(starts[c]);
+    let count = wide8(heads[i]);
+    all_false(values, literals, from, count)
+}
+
+// What clause c asks for.
+fn act_at(
+    values: &[u8; 256],
+    starts: &[u16; 578],
+    literals: &[u16; 2568],
+    heads: &[u8; 512],
+    given: usize,
+    goals: usize,
+    c: usize,
+) -> Act
+    requires { ⌜ (goals ≤ 256) × ClausesFit (now starts) (now literals) (now heads) given (c + 1) ⌝ }
+    ensures { λ r. ⌜ r ≡ actAt (now (values .entry)) (now (starts .entry)) (now (literals .entry)) (now (heads .entry)) given goals c ⌝ }
+{
+    let next = c + 1;
+    let from = encoding::wide(starts[c]);
+    let end = encoding::wide(starts[next]);
+    match scan::look_at(values, literals, from, end) {
+        Seen::AllFalse => Act::Conflict,
+        Seen::One(w) => {
+            if may_set(values, starts, literals, heads, given, goals, c, w) {
+                return Act::Force(w);
+            }
+            Act::Nothing
+        }
+        Seen::Open => Act::Nothing,
+    }
+}
+
+// Step A over the first clauses.
+pub fn next_act(
+    values: &[u8; 256],
+    starts: &[u16; 578],
+    literals: &[u16; 2568],
+    heads: &[u8; 512],
+    given: usize,
+    goals: usize,
+    clauses: usize,
+) -> Act
+    requires { ⌜ (goals ≤ 256) × ClausesFit (now starts) (now literals) (now heads) given clauses ⌝ }
+    ensures { λ r. ⌜ r ≡ actFrom (now (values .entry)) (now (starts .entry)) (now (literals .entry)) (now (heads .entry)) given goals 0 clauses ⌝ }
+{
+    let mut c: usize = 0;
+    while c < clauses {
+        match act_at(values, starts, literals, heads, given, goals, c) {
+            Act::Conflict => {
+                return Act::Conflict;
+            }
+            Act::Force(w) => {
+                return Act::Force(w);
+            }
+            Act::Nothing => {}
+        }
+        c += 1;
+    }
+    Act::Nothing
+}

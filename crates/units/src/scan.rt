@@ -1,0 +1,44 @@
+// What the literals of a clause say.
+ghost use mathlib.Core.Path.{_≡_};
+ghost use Prim.Native.Nat.{ℕ, _-_, _≤_, _<_};
+ghost use lib.ListN.{getD, take, drop};
+ghost use Rattle.units.specs.Scan.{join, look};
+use crate::Seen;
+use encoding::values::value;
+
+// One literal more of a clause.
+fn joined(seen: Seen, w: u16, v: u8) -> Seen
+    ensures { λ r. ⌜ r ≡ join seen w v ⌝ }
+{
+    if v == 2 {
+        return seen;
+    }
+    if v == 1 {
+        return Seen::Open;
+    }
+    match seen {
+        Seen::AllFalse => Seen::One(w),
+        Seen::One(x) => if x == w { seen } else { Seen::Open },
+        Seen::Open => Seen::Open,
+    }
+}
+
+// What the words from one place up to another say.
+pub fn look_at(values: &[u8; 256], literals: &[u16; 2568], from: usize, end: usize) -> Seen
+    requires { ⌜ (from ≤ end) × (end ≤ 2568) × ((i : ℕ) → i < end → getD (now literals) i 0 < 512) ⌝ }
+    ensures { λ r. ⌜ r ≡ look (now (values .entry)) (take (end - from) (drop from (now (literals .entry)))) ⌝ }
+{
+    let words: &[u16] = literals; // the proof knows a slice's length
+    let mut seen = Seen::AllFalse;
+    let mut i = from;
+    while i < end {
+        let w = words[i];
+        let v = value(values, w);
+        seen = joined(seen, w, v);
+        if let Seen::Open = seen {
+            return Seen::Open;
+        }
+        i += 1;
+    }
+    seen
+}

@@ -1,0 +1,68 @@
+// The trail: what is set, in the order of setting, and what a conflict undoes.
+ghost use mathlib.Core.Path.{_≡_};
+ghost use Prim.Native.Nat.{ℕ, _+_, _-_, _/_, _%_, _≤_, _<_};
+ghost use lib.ListN.{length, getD, set, take, drop};
+ghost use Rattle.units.specs.TrailWords.{latestDecision, cleared, firstUnset};
+
+// Sets a literal, with why it is set, behind the first n entries.
+pub fn set_literal(
+    values: &mut [u8; 256],
+    trail: &mut [u16; 256],
+    marks: &mut [u8; 256],
+    n: usize,
+    w: u16,
+    why: u8,
+)
+    requires { ⌜ (n < 256) × (w < 512) ⌝ }
+    ensures { λ _. ⌜ (now (values .exit) ≡ set (now (values .entry)) (w / 2) (1 + w % 2)) × (now (trail .exit) ≡ set (now (trail .entry)) n w) × (now (marks .exit) ≡ set (now (marks .entry)) n why) ⌝ }
+{
+    let word = encoding::wide(w);
+    let at = word / 2;
+    values[at] = (word % 2) as u8 + 1;
+    trail[n] = w;
+    marks[n] = why;
+}
+
+// The place behind the latest decision that stands at true, 0 where there is none.
+pub fn latest_decision(marks: &[u8; 256], n: usize) -> usize
+    requires { ⌜ n ≤ 256 ⌝ }
+    ensures { λ r. ⌜ (r ≡ latestDecision (now (marks .entry)) n) × (r ≤ n) ⌝ }
+{
+    let mut i = n;
+    while 0 < i {
+        let top = i - 1;
+        if marks[top] == 1 {
+            return i;
+        }
+        i = top;
+    }
+    0
+}
+
+// Unsets the entries from one place up to another.
+pub fn undo(values: &mut [u8; 256], trail: &[u16; 256], from: usize, n: usize)
+    requires { ⌜ (from ≤ n) × (n ≤ 256) × (n ≤ length (now trail)) × ((i : ℕ) → i < n → getD (now trail) i 0 < 512) ⌝ }
+    ensures { λ _. ⌜ now (values .exit) ≡ cleared (now (values .entry)) (take (n - from) (drop from (now (trail .entry)))) ⌝ }
+{
+    let mut i = from;
+    while i < n {
+        let at = encoding::wide(trail[i]) / 2;
+        values[at] = 0;
+        i += 1;
+    }
+}
+
+// The first unset position among the first, or their number.
+pub fn first_unset(values: &[u8; 256], goals: usize) -> usize
+    requires { ⌜ goals ≤ 256 ⌝ }
+    ensures { λ r. ⌜ r ≡ firstUnset (now (values .entry)) 0 goals ⌝ }
+{
+    let mut i: usize = 0;
+    while i < goals {
+        if values[i] == 0 {
+            return i;
+        }
+        i += 1;
+    }
+    i
+}
