@@ -1,5 +1,5 @@
 /* The solver's calls for C. Link target/staticlib/libinterface.a, which `rt staticlib interface` proves and writes.
-   A call needs a little over 1 MB of stack. Nothing is required of the bytes, the budget or the lengths. */
+   A call needs about 1.5 MB of stack. Nothing is required of the bytes, the budget or the lengths. */
 #ifndef THUNYAWORM_H
 #define THUNYAWORM_H
 
