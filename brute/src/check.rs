@@ -1,22 +1,25 @@
 //! One sheet compared: what the reader, the search and the meaning expect against what the library's
 //! two calls do.
 
-use crate::generate::Case;
-use crate::interface::{self, Listed, Solved};
+use crate::case::{printable, Case};
+use crate::ended::Ended;
+use crate::interface::{self, Listed, Room, Solved};
 use crate::listing;
 use crate::meaning::{self, Meaning};
 use crate::problem::{Literal, Problem};
 use crate::reader::{self, Refusal};
-use crate::search::{self, Ended};
+use crate::search::{self, Events};
+use crate::told;
 
 /// The search gives up where it looks at more clauses and fillings; the library is not asked then.
 const EFFORT: u64 = 20_000_000;
 
-pub enum Expected {
+enum Expected {
     Refused(Refusal),
     Ended {
         problem: Problem,
         ended: Ended,
+        events: Events,
         listing: Vec<u8>,
     },
     TooLarge,
@@ -25,20 +28,25 @@ pub enum Expected {
 /// What a call that shows no difference came to.
 pub enum Same {
     Refused(Refusal),
-    Ended { ended: Ended, by_meaning: bool },
+    Ended {
+        ended: Ended,
+        events: Events,
+        by_meaning: bool,
+    },
     TooLarge,
 }
 
-pub fn expect(case: &Case, effort: u64) -> Expected {
+fn expect(case: &Case) -> Expected {
     match reader::read(&case.sheet, case.room) {
         Err(refusal) => Expected::Refused(refusal),
-        Ok(problem) => match search::search(&problem, case.budget, effort) {
+        Ok(problem) => match search::search(&problem, case.budget, EFFORT) {
             None => Expected::TooLarge,
-            Some(ended) => {
+            Some((ended, events)) => {
                 let listing = listing::write(&ended, &problem);
                 Expected::Ended {
                     problem,
                     ended,
+                    events,
                     listing,
                 }
             }
@@ -48,12 +56,11 @@ pub fn expect(case: &Case, effort: u64) -> Expected {
 
 /// What the call came to, or all differences in words.
 pub fn check(case: &Case) -> Result<Same, Vec<String>> {
-    let expected = expect(case, EFFORT);
+    let expected = expect(case);
     if let Expected::TooLarge = expected {
         return Ok(Same::TooLarge);
     }
-    let first = interface::solve(&case.sheet, case.budget, case.room);
-    let second = interface::listing(&case.sheet, case.budget, case.room);
+    let (first, second) = interface::both_calls(case);
     let mut differences = Vec::new();
     let same = match expected {
         Expected::Refused(refusal) => {
@@ -69,18 +76,16 @@ pub fn check(case: &Case) -> Result<Same, Vec<String>> {
         Expected::Ended {
             problem,
             ended,
+            events,
             listing,
         } => {
-            let values = [
-                ended.verdict as u64,
-                ended.table.len() as u64,
-                ended.log.len() as u64,
-                ended.decisions,
-                ended.conflicts,
-            ];
-            compare(&first, &second, &values, &listing, &mut differences);
+            compare(&first, &second, &ended.values(), &listing, &mut differences);
             let by_meaning = compare_meaning(&first, &second, &problem, &mut differences);
-            Same::Ended { ended, by_meaning }
+            Same::Ended {
+                ended,
+                events,
+                by_meaning,
+            }
         }
         Expected::TooLarge => Same::TooLarge,
     };
@@ -100,50 +105,43 @@ fn compare(
     listing: &[u8],
     differences: &mut Vec<String>,
 ) {
-    let mut demand = |holds: bool, what: String| {
-        if !holds {
-            differences.push(what);
-        }
-    };
     let length = listing.len();
-    demand(
-        first.values == values,
-        format!("first call: values {:?}, expected {values:?}", first.values),
-    );
-    demand(
-        first.rest_unchanged,
-        "first call: places behind the values are changed".into(),
-    );
-    demand(
-        first.room.front(length) == listing,
-        "first call: other bytes at the room's front".into(),
-    );
-    demand(
-        first.room.unchanged_behind(length),
-        "first call: bytes behind the listing are changed".into(),
-    );
-    demand(
-        second.length == length,
-        format!("second call: length {}, expected {length}", second.length),
-    );
-    demand(
-        second.room.front(length) == listing,
-        "second call: other bytes at the room's front".into(),
-    );
-    demand(
-        second.room.unchanged_behind(length),
-        "second call: bytes behind the listing are changed".into(),
-    );
+    if first.values != values {
+        differences.push(format!(
+            "first call: values {:?}, expected {values:?}",
+            first.values
+        ));
+    }
+    if !first.rest_unchanged {
+        differences.push("first call: places behind the values are changed".into());
+    }
+    compare_room("first call", &first.room, listing, differences);
+    if second.length != length {
+        differences.push(format!(
+            "second call: length {}, expected {length}",
+            second.length
+        ));
+    }
+    compare_room("second call", &second.room, listing, differences);
     if first.values.len() == 5 {
-        let told = listing::first_line(second.room.front(second.length));
+        let told = told::first_line(second.room.front(second.length));
         let agrees = told.is_some_and(|told| told[..] == first.values[..]);
-        demand(
-            agrees,
-            format!(
+        if !agrees {
+            differences.push(format!(
                 "values {:?}, but the listing's first line has {told:?}",
                 first.values
-            ),
-        );
+            ));
+        }
+    }
+}
+
+/// A room after its call: the listing at its front, all other bytes as they were.
+fn compare_room(call: &str, room: &Room, listing: &[u8], differences: &mut Vec<String>) {
+    if room.front(listing.len()) != listing {
+        differences.push(format!("{call}: other bytes at the room's front"));
+    }
+    if !room.unchanged_behind(listing.len()) {
+        differences.push(format!("{call}: bytes behind the listing are changed"));
     }
 }
 
@@ -167,8 +165,7 @@ fn compare_meaning(
                 differences.push("meaning: a choice is good, but the answer is UNSAT".into());
             }
             if answer == Some(&1) {
-                let set =
-                    listing::set_literals(second.room.front(second.length)).unwrap_or_default();
+                let set = told::set_literals(second.room.front(second.length)).unwrap_or_default();
                 if !good.choice.iter().all(|literal| set.contains(literal)) {
                     differences.push("meaning: the setting is not the first good choice".into());
                 }
@@ -187,15 +184,9 @@ fn same_set(one: &[Literal], other: &[Literal]) -> bool {
 
 /// A case and both results in words, for the report of a difference.
 pub fn describe(case: &Case, differences: &[String]) -> String {
-    let mut text = format!(
-        "budget {}, room {}, sheet of {} bytes:\n",
-        case.budget,
-        case.room,
-        case.sheet.len()
-    );
-    text.push_str(&printable(&case.sheet));
+    let mut text = case.in_words();
     text.push_str("expected, by the second implementation:\n");
-    match expect(case, EFFORT) {
+    match expect(case) {
         Expected::Refused(refusal) => text.push_str(&format!(
             "refusal {} line {}\n",
             refusal.number, refusal.line
@@ -212,8 +203,7 @@ pub fn describe(case: &Case, differences: &[String]) -> String {
         }
         Expected::TooLarge => text.push_str("too large\n"),
     }
-    let first = interface::solve(&case.sheet, case.budget, case.room);
-    let second = interface::listing(&case.sheet, case.budget, case.room);
+    let (first, second) = interface::both_calls(case);
     text.push_str(&format!(
         "the library: values {:?}, listing of {} bytes:\n",
         first.values, second.length
@@ -222,21 +212,6 @@ pub fn describe(case: &Case, differences: &[String]) -> String {
     text.push_str("differences:\n");
     for difference in differences {
         text.push_str(&format!("- {difference}\n"));
-    }
-    text
-}
-
-/// Bytes as text; those that are no plain text are shown as numbers, and a missing last LF is told.
-pub fn printable(bytes: &[u8]) -> String {
-    let mut text = String::new();
-    for &byte in bytes {
-        match byte {
-            b'\n' | b' '..=b'~' => text.push(byte as char),
-            _ => text.push_str(&format!("<{byte}>")),
-        }
-    }
-    if bytes.last().is_some_and(|&byte| byte != b'\n') {
-        text.push_str("<no LF>\n");
     }
     text
 }

@@ -1,18 +1,11 @@
 //! Random sheets of many shapes, small enough that their meaning can be enumerated, with budgets and
 //! rooms. One sheet in four or so is damaged afterwards.
 
+use crate::case::Case;
 use crate::damage;
 use crate::random::Random;
 use crate::reader::{ROOM, SHEET};
 use crate::rows::{clause, negated, rule, text, Row};
-
-/// The arguments of a call.
-#[derive(Clone)]
-pub struct Case {
-    pub sheet: Vec<u8>,
-    pub budget: u32,
-    pub room: usize,
-}
 
 pub fn case(random: &mut Random) -> Case {
     let (mut sheet, limits) = sheet(random);

@@ -1,7 +1,8 @@
 //! The library's two calls. The room and the values are lent from the middle of larger buffers filled
 //! with a pattern, so that every byte that a call changes, inside or outside, can be seen.
 
-use crate::reader::ROOM;
+use crate::case::Case;
+use crate::watch;
 
 extern "C" {
     fn thunyaworm_solve(
@@ -80,22 +81,12 @@ pub struct Listed {
     pub room: Room,
 }
 
-pub fn solve(sheet: &[u8], budget: u32, room_length: usize) -> Solved {
-    let mut room = Room::new(room_length, false);
-    let mut values = [VALUE_PATTERN; VALUES];
-    let lent = room.lent();
-    // SAFETY: each pointer comes from a slice and goes with that slice's length.
-    let count = unsafe {
-        thunyaworm_solve(
-            sheet.as_ptr(),
-            sheet.len(),
-            budget,
-            lent.as_mut_ptr(),
-            lent.len(),
-            values.as_mut_ptr(),
-            values.len(),
-        )
-    };
+pub fn both_calls(case: &Case) -> (Solved, Listed) {
+    (solve(case), listing(case))
+}
+
+fn solve(case: &Case) -> Solved {
+    let (count, values, room) = first_call(case, VALUES);
     let count = count.min(VALUES);
     Solved {
         values: values[..count].to_vec(),
@@ -105,39 +96,57 @@ pub fn solve(sheet: &[u8], budget: u32, room_length: usize) -> Solved {
 }
 
 /// With fewer than five places the first call does nothing and hands back 0.
-pub fn needs_five_places(sheet: &[u8]) -> bool {
+pub fn needs_five_places(case: &Case) -> bool {
     (0..5).all(|places| {
-        let mut room = Room::new(ROOM, false);
-        let mut values = [VALUE_PATTERN; VALUES];
-        let lent = room.lent();
-        // SAFETY: as above, with fewer places than there are.
-        let count = unsafe {
-            thunyaworm_solve(
-                sheet.as_ptr(),
-                sheet.len(),
-                0,
-                lent.as_mut_ptr(),
-                lent.len(),
-                values.as_mut_ptr(),
-                places,
-            )
-        };
+        let (count, values, room) = first_call(case, places);
         count == 0 && values == [VALUE_PATTERN; VALUES] && room.unchanged_behind(0)
     })
 }
 
-pub fn listing(sheet: &[u8], budget: u32, room_length: usize) -> Listed {
-    let mut room = Room::new(room_length, true);
-    let lent = room.lent();
-    // SAFETY: each pointer comes from a slice and goes with that slice's length.
-    let length = unsafe {
-        thunyaworm_listing(
-            sheet.as_ptr(),
-            sheet.len(),
-            budget,
-            lent.as_mut_ptr(),
-            lent.len(),
-        )
-    };
+fn listing(case: &Case) -> Listed {
+    let (length, room) = call("second call", case, true, |room| {
+        // SAFETY: each pointer comes from a slice and goes with that slice's length.
+        unsafe {
+            thunyaworm_listing(
+                case.sheet.as_ptr(),
+                case.sheet.len(),
+                case.budget,
+                room.as_mut_ptr(),
+                room.len(),
+            )
+        }
+    });
     Listed { length, room }
+}
+
+/// The first call with so many places lent: the number that it hands back, all places, the room.
+fn first_call(case: &Case, places: usize) -> (usize, [u64; VALUES], Room) {
+    let mut values = [VALUE_PATTERN; VALUES];
+    let (count, room) = call("first call", case, false, |room| {
+        // SAFETY: as above; of the places at most as many are lent as there are.
+        unsafe {
+            thunyaworm_solve(
+                case.sheet.as_ptr(),
+                case.sheet.len(),
+                case.budget,
+                room.as_mut_ptr(),
+                room.len(),
+                values.as_mut_ptr(),
+                places.min(VALUES),
+            )
+        }
+    });
+    (count, values, room)
+}
+
+/// A call with a room of its own, watched: the number that it hands back, and the room.
+fn call(
+    name: &'static str,
+    case: &Case,
+    inverted: bool,
+    made: impl FnOnce(&mut [u8]) -> usize,
+) -> (usize, Room) {
+    let mut room = Room::new(case.room, inverted);
+    let number = watch::watched(name, case, || made(room.lent()));
+    (number, room)
 }

@@ -1,13 +1,14 @@
 //! Demand 3: a sheet that keeps an UNSAT one's constants, symbols, rules and clauses is never answered
 //! UNKNOWN, at whatever budget, and no assignment satisfies it.
 
+use crate::case::Case;
 use crate::check::{check, Same};
-use crate::generate::{any_style, random_atom, random_clause, random_rule, Case};
+use crate::ended::Verdict;
+use crate::generate::{any_style, random_atom, random_clause, random_rule};
 use crate::meaning;
 use crate::random::Random;
 use crate::reader::{self, ROOM};
 use crate::rows::{rows, text, Row};
-use crate::search::Verdict;
 
 /// Assignments are enumerated up to so many atoms.
 const ATOMS: usize = 14;

@@ -3,10 +3,12 @@
 //! brute --vectors FOLDER: stored sheets and listings instead.
 //!
 //! Nothing here is shared with the solver. The last line tells the differences; exit status 1 if there
-//! are any, or if a long run never met an answer or a refusal that can come up.
+//! are any, if a long run never met an answer or a refusal that can come up, or if a call hangs.
 
+mod case;
 mod check;
 mod damage;
+mod ended;
 mod generate;
 mod interface;
 mod larger;
@@ -18,13 +20,17 @@ mod reader;
 mod rows;
 mod search;
 mod shrink;
+mod stored;
 mod tally;
+mod told;
 mod vectors;
+mod watch;
 
+use case::{printable, Case};
 use check::Same;
-use generate::Case;
+use ended::Verdict;
 use random::Random;
-use search::Verdict;
+use reader::ROOM;
 use std::path::Path;
 use std::process::ExitCode;
 use std::time::{Duration, Instant};
@@ -35,10 +41,11 @@ const SEED: u64 = 20_230_517;
 const COUNT: u64 = 90_000;
 /// A run ends at so many differences.
 const ENOUGH: u64 = 3;
-/// A call of the library needs over 1 MB of stack.
+/// A call of the library needs about 1.5 MB of stack.
 const STACK: usize = 64 << 20;
 
 fn main() -> ExitCode {
+    watch::start();
     let worker = std::thread::Builder::new()
         .stack_size(STACK)
         .spawn(run)
@@ -83,7 +90,13 @@ fn usage() -> bool {
 fn random_sheets(seed: u64, count: u64) -> bool {
     let mut tally = Tally::default();
     let mut differences = 0;
-    if !interface::needs_five_places(b"   1   1\n") {
+    watch::sheet("with fewer than five places".into());
+    let smallest = Case {
+        sheet: b"   1   1\n".to_vec(),
+        budget: 0,
+        room: ROOM,
+    };
+    if !interface::needs_five_places(&smallest) {
         differences += 1;
         println!("with fewer than five places the first call does not leave all unchanged and hand back 0");
     }
@@ -94,6 +107,7 @@ fn random_sheets(seed: u64, count: u64) -> bool {
             told = Instant::now();
         }
         tally.sheets += 1;
+        watch::sheet(format!("sheet {index} of seed {seed}"));
         if let Err(report) = one_sheet(&mut Random::new(seed, index), &mut tally) {
             differences += 1;
             println!("sheet {index} of seed {seed}, made smaller:\n{report}");
@@ -132,8 +146,7 @@ fn one_sheet(random: &mut Random, tally: &mut Tally) -> Result<(), String> {
                     if check::check(&case_two).is_err() {
                         report(&case_two)
                     } else {
-                        let smaller =
-                            format!("the smaller sheet:\n{}", check::printable(&case.sheet));
+                        let smaller = format!("the smaller sheet:\n{}", printable(&case.sheet));
                         smaller + &check::describe(&case_two, &differences)
                     }
                 })?;

@@ -86,18 +86,18 @@ pub struct Problem {
     pub arities: Vec<usize>,
     pub rules: Vec<Rule>,
     pub clauses: Vec<Vec<Literal>>,
+    /// The atoms of the clauses in order of first appearance.
+    pub goal_atoms: Vec<Atom>,
 }
 
 impl Problem {
-    /// The atoms of the clauses in order of first appearance.
-    pub fn goal_atoms(&self) -> Vec<Atom> {
-        let mut atoms = Vec::new();
-        for literal in self.clauses.iter().flatten() {
-            if !atoms.contains(&literal.atom) {
-                atoms.push(literal.atom);
+    pub fn add_clause(&mut self, clause: Vec<Literal>) {
+        for literal in &clause {
+            if !self.goal_atoms.contains(&literal.atom) {
+                self.goal_atoms.push(literal.atom);
             }
         }
-        atoms
+        self.clauses.push(clause);
     }
 
     /// How many atoms there are over the sheet's symbols and constants.

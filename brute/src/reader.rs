@@ -49,8 +49,10 @@ fn read_line(line: &[u8], kind_before: Option<i32>, problem: &mut Problem) -> Re
     if text.len() < 4 || text.len() > 136 || text.len() % 4 != 0 {
         return Err(5);
     }
-    let columns: Option<Vec<i32>> = text.chunks(4).map(column).collect();
-    let columns = columns.ok_or(6u64)?;
+    let mut columns = Vec::with_capacity(text.len() / 4);
+    for bytes in text.chunks(4) {
+        columns.push(column(bytes).ok_or(6u64)?);
+    }
     let kind = columns[0];
     let kind_fits = match kind_before {
         None => kind == 1,
@@ -158,15 +160,15 @@ fn clause_line(columns: &[i32], problem: &mut Problem) -> Result<(), u64> {
         return Err(9);
     }
     let mut place = 2;
-    let mut clause = Vec::new();
+    let mut clause = Vec::with_capacity(count);
     for _ in 0..count {
         clause.push(ground_literal(columns, &mut place, problem)?);
     }
     if place < columns.len() {
         return Err(11);
     }
-    problem.clauses.push(clause);
-    if problem.goal_atoms().len() > 64 {
+    problem.add_clause(clause);
+    if problem.goal_atoms.len() > 64 {
         return Err(13);
     }
     Ok(())

@@ -1,8 +1,8 @@
 //! A case that shows a difference is made smaller: without lines, literals, symbols, constants, bytes,
 //! and with a smaller budget, as long as it still shows one.
 
+use crate::case::Case;
 use crate::check::check;
-use crate::generate::Case;
 use crate::reader::ROOM;
 use crate::rows::{clause, literals, rows, rule, text, Row};
 use std::time::{Duration, Instant};

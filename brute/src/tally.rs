@@ -30,10 +30,14 @@ impl Tally {
         match same {
             Same::TooLarge => self.too_large += 1,
             Same::Refused(refusal) => self.refusals[refusal.number as usize] += 1,
-            Same::Ended { ended, by_meaning } => {
+            Same::Ended {
+                ended,
+                events: new,
+                by_meaning,
+            } => {
                 self.answers[ended.verdict as usize] += 1;
                 self.by_meaning += u64::from(*by_meaning);
-                let (sum, new) = (&mut self.events, &ended.events);
+                let sum = &mut self.events;
                 sum.backwards += new.backwards;
                 sum.passed_over += new.passed_over;
                 sum.not_repeated += new.not_repeated;

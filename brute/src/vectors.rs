@@ -1,39 +1,26 @@
 //! Stored sheets with the listings that the program prints for them: the second implementation, and
 //! then the library, against each.
 
-use crate::check::{check, expect, Expected};
-use crate::generate::Case;
-use crate::listing::refusal_line;
+use crate::case::Case;
+use crate::check::check;
 use crate::reader::ROOM;
+use crate::stored::{printed, sheets, BUDGET};
+use crate::watch;
 use std::fs;
 use std::path::Path;
 
-/// The program's budget.
-const BUDGET: u32 = 1_000_000;
-
 /// Tells whether all passed.
 pub fn run(folder: &Path) -> std::io::Result<bool> {
-    let mut sheets: Vec<_> = fs::read_dir(folder)?
-        .map(|entry| Ok(entry?.path()))
-        .collect::<std::io::Result<_>>()?;
-    sheets.retain(|path| {
-        path.extension()
-            .is_some_and(|extension| extension == "sheet")
-    });
-    sheets.sort();
     let (mut passed, mut failed) = (0, 0);
-    for path in sheets {
+    for path in sheets(folder)? {
+        watch::sheet(path.display().to_string());
         let stored = fs::read(path.with_extension("listing"))?;
         let case = Case {
             sheet: fs::read(&path)?,
             budget: BUDGET,
             room: ROOM,
         };
-        let ours = match expect(&case, u64::MAX) {
-            Expected::Refused(refusal) => refusal_line(refusal),
-            Expected::Ended { listing, .. } => listing,
-            Expected::TooLarge => Vec::new(),
-        };
+        let ours = printed(&case.sheet);
         let library = check(&case);
         if ours == stored && library.is_ok() {
             passed += 1;
