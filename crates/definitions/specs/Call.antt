@@ -1,9 +1,11 @@
 -- Document 01: the call on any bytes, budget and room: question 1, what is handed back, and the room afterwards. Assumes nothing.
-use Prim.Native.Nat.{ℕ}
+use Prim.Native.Nat.{ℕ, _≤_, _<_}
+use mathlib.Core.Path.{_≡_}
 use mathlib.Core.Bool.{true, false}
 use mathlib.Core.List.{List, [], _∷_, _++_}
 use lib.Dec.{leb}
 use lib.ListN.{length, drop}
+use Rattle.definitions.specs.Words.{Problem}
 use Rattle.definitions.specs.Questions.{Reading, refused, accepted, read}
 use Rattle.definitions.specs.Search.{State, Outcome, more, done, search}
 use Rattle.definitions.specs.Listing.{answerNumber, listing, refusalLine}
@@ -73,6 +75,39 @@ printed sheet budget = printedOf (answered (read sheet) budget)
 unfoldable pub values : Answer → List ℕ
 values (Refused r) = r .number ∷ r .line ∷ []
 values (Answered c) = answerNumber (c .verdict) ∷ c .atoms ∷ c .logged ∷ c .decisions ∷ c .conflicts ∷ []
+
+-- ── what a call comes to ──
+
+module _ (sheet : List ℕ) (budget : ℕ) (room : List ℕ) where
+  -- "for a refusal the number and line", "an empty part for a refusal", "a refused call leaves all the room unchanged"
+  pub record RefusedWith (question line : ℕ) : Type 0 where
+    pub handedBack : call sheet budget room ≡ Refused (record { number = question; line = line })
+    pub part : listedPart sheet budget room ≡ []
+    pub unchanged : roomAfter sheet budget room ≡ room
+
+  -- "otherwise which of the four it is and the counts" of the search's last state; the second call hands back "the front part of the
+  -- lent room that holds the listing" of that state: log, setting and counts; either "leaves the bytes behind the listing unchanged"
+  pub record AnsweredWith (v : Verdict) (s : State) : Type 0 where
+    pub handedBack : call sheet budget room
+        ≡ Answered (record { verdict = v; atoms = length (s .table); logged = length (s .log); decisions = s .decisions; conflicts = s .conflicts })
+    pub part : listedPart sheet budget room ≡ listing v s
+    pub front : roomAfter sheet budget room ≡ listing v s ++ drop (length (listing v s)) room
+
+  -- "the first no ends the call with that number and the line": a room that is too small is refused with 1 and line 0, bytes that are no
+  -- proper sheet with the first question that fails and its line; every other call is answered with what the search comes to
+  pub data Comes : Type 0 where
+    tooSmall : length room < 45056 → RefusedWith 1 0 → Comes
+    improper : 45056 ≤ length room → (question line : ℕ) → read sheet ≡ refused question line → RefusedWith question line → Comes
+    proper : 45056 ≤ length room → (p : Problem) → read sheet ≡ accepted p → (v : Verdict) (s : State) → search p budget ≡ done v s
+        → AnsweredWith v s → Comes
+
+  -- "the answer is always the one that the search below comes to for that sheet and the call's budget"
+  pub record FromSearch (v : Verdict) : Type 0 where
+    pub problem : Problem
+    pub reads : read sheet ≡ accepted problem
+    pub state : State
+    pub comes : search problem budget ≡ done v state
+    pub answer : AnsweredWith v state
 
 -- names every definition of this module, for a theorem that computes with all of them
 unfoldable pub Call·all : Unit {0}

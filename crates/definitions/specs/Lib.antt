@@ -5,6 +5,7 @@ pub mod Meaning
 pub mod Sheet
 pub mod Questions
 pub mod Search
+pub mod Verdicts
 pub mod Listing
 pub mod Call
 pub mod Sheets

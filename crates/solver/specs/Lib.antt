@@ -1,5 +1,4 @@
 pub mod Solving
-pub mod CallLaws
 pub mod SolvingLaws
 pub mod PrintLaws
 pub mod Promises

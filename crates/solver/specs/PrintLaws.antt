@@ -15,11 +15,11 @@ use Rattle.definitions.specs.declared.Counts.{Counts}
 use Rattle.definitions.specs.declared.Answer.the-variants.{Refused, Answered}
 use Rattle.theory.specs.Tests.{apart}
 use Rattle.theory.specs.Theorems.{call-comes-to-an-end}
+use Rattle.theory.specs.CallLaws.{large-room}
 use Rattle.column.specs.Sets.{sets-front}
 use Rattle.column.specs.Widths.{narrow-length}
 use Rattle.listing.specs.Puts.{Put}
 use Rattle.solver.specs.Solving.{SolvedAs}
-use Rattle.solver.specs.CallLaws.{large-room}
 use Rattle.solver.specs.declared.Solved.{Solved}
 
 -- three columns and LF

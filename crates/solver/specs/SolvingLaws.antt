@@ -4,7 +4,7 @@ use Prim.Native.Nat.{ℕ, _-_, _^_, _≤_, _<_}
 use mathlib.Core.Path.{_≡_, refl, sym, ap, _∙_, subst}
 use mathlib.Core.List.{List, map}
 use native.Mathlib.Omega.{arith}
-use lib.ListN.{length, getD, replicate, take, drop, length-replicate}
+use lib.ListN.{length, getD, replicate, take, drop, length-append, length-replicate}
 use lib.Seq.{sets, length-sets, take-append-seam}
 use Rattle.definitions.specs.Lists.{joined}
 use Rattle.definitions.specs.Words.{Problem, goalAtoms}
@@ -18,6 +18,7 @@ use Rattle.definitions.specs.declared.Answer.the-variants.{Refused, Answered}
 use Rattle.theory.specs.Tests.{apart}
 use Rattle.theory.specs.Limits.{accepted-limits, limits-searchable}
 use Rattle.theory.specs.Theorems.{listing-at-most}
+use Rattle.theory.specs.CallLaws.{small-room, large-room}
 use Rattle.column.specs.Sets.{sets-front}
 use Rattle.encoding.specs.Slots.{ruleWords}
 use Rattle.encoding.specs.Encoding.{atomCode, clauseWords, startsFrom, Arrays, arrays, hold, sizesOf}
@@ -33,7 +34,6 @@ use Rattle.search.specs.declared.Ended.{Ended}
 use Rattle.listing.specs.Puts.{Put}
 use Rattle.listing.specs.Finished.{Finished}
 use Rattle.solver.specs.Solving.{SolvedAs, emptyArrays, Held}
-use Rattle.solver.specs.CallLaws.{small-room, large-room, written-fits}
 use Rattle.solver.specs.declared.Solved.{Solved}
 
 -- equal counts make equal answers
@@ -196,6 +196,11 @@ small-solved sheet budget room h = rw (small-room sheet budget room h) (record {
 pub large-solved : (sheet : List ℕ) (budget : ℕ) (room : List ℕ) (r : Solved) (after : List ℕ) → 45056 ≤ length room
     → SolvedAs (answered (read sheet) budget) room r after → SolvedAs (result sheet budget room) room r after
 large-solved sheet budget room r after h s = rw (large-room sheet budget room h) s
+
+-- what is written at the front of a room lies in it
+pub written-fits : (bytes room : List ℕ) {n : ℕ} {after : List ℕ} → n ≡ length bytes → after ≡ written bytes room → n ≤ length after
+unfolding written
+written-fits bytes room size stored = omega (arith, size, ap length stored, length-append bytes (drop (length bytes) room))
 
 -- the front of the room that is as long as the listing is the listing
 module _ (came : Result) (room : List ℕ) (r : Solved) (after : List ℕ) (solved : SolvedAs came room r after) where

@@ -1,59 +1,120 @@
--- Every step keeps the invariant of the trail and the log, so UNSAT and UNKNOWN mean what document 01 says. Assumes nothing.
+-- The invariant of a state, over any kind of candidates: what is set is decided or follows, and the log is of instances. Every step
+-- keeps it, so UNSAT rules out every candidate, where candidates obey the log. Assumes nothing.
 use Prim.Native.Nat.{ℕ}
-use mathlib.Core.Path.{_≡_, subst}
-use mathlib.Core.Option.{some}
-use Rattle.definitions.specs.Instances.{Task}
-use Rattle.definitions.specs.Meaning.{Choice, Fails}
-use Rattle.definitions.specs.Search.{State, start, conflict, force, nextAct, loggedOf, backtrack, setUnit, logInstance, decide, afterConflict, Outcome, enough, searchTask, done}
+use mathlib.Core.Path.{_≡_, sym, subst}
+use mathlib.Core.Logic.{inl, inr}
+use mathlib.Core.Option.{none, some}
+use mathlib.Core.List.{[], _∷_, List·Memᴰ·not-nil, List·Memᴰ·append-cases, List·Memᴰ·eq-of-singleton, Memᴰ·append-left}
+use Rattle.definitions.specs.Lists.{_∈_}
+use Rattle.definitions.specs.Instances.{Instance, Task}
+use Rattle.definitions.specs.Search.{Logged, State, start, conflict, force, nextAct, nextInstance, loggedOf, nextGoal, backtrack, setUnit, logInstance, decide, afterConflict, Outcome, more, done, enough, searchTask}
 use Rattle.definitions.specs.declared.Verdict.{Verdict}
 use Rattle.definitions.specs.declared.Verdict.the-variants.{Unsat, Unknown, Spent, Full}
+use Rattle.theory.specs.SearchLaws.{fired}
 use Rattle.theory.specs.Steps.{Step, unit, undone, refuted, logs, overflows, decides, overspends, rests, After, run-keeps}
-use Rattle.theory.specs.Trail.{BacktrackOk, backtrack-ok, unit-next, decision-next}
-use Rattle.theory.specs.Choices.{choiceWorld, Inv, start-inv, inv-knows, inv-act, log-ok, log-more}
-use Rattle.theory.specs.Unknown.{FirstChoice, first-choice}
+use Rattle.theory.specs.Trail.{World, LogOk, Ok, bare, Laws, act-ok, BacktrackOk, backtrack-ok, unit-next, decision-next}
 
-module _ (k : Task) where
-  -- what each answer tells of the choices
+-- ── the log ──
+
+-- every logged clause comes from an instance
+abbrev pub LogsOk : Task → State → Type 0
+LogsOk k s = (g : Logged) → g ∈ s .log → LogOk k g
+
+module _ (k : Task) (s : State) where
+  log-ok : (i : Instance) → nextInstance k s ≡ some i → LogOk k (loggedOf (s .trail) i)
+  unfolding loggedOf
+  log-ok i e = let f = fired k s i e in record { its = f .its; taken = λ l q. f .taken l q .0; bodiless = f .bodiless }
+
+  log-more : (g : Logged) → LogsOk k s → LogOk k g → LogsOk k (logInstance s g)
+  unfolding logInstance
+  log-more g ok new x m =
+      elim (List·Memᴰ·append-cases (s .log) m) [
+        | inl n ↦ ok x n
+        | inr n ↦ subst (LogOk k) (sym (List·Memᴰ·eq-of-singleton n)) new
+      ]
+
+  -- no clause leaves the log, and those that enter it come from an instance
+  abbrev Grown : State → Type 0
+  Grown u = ((g : Logged) → g ∈ s .log → g ∈ u .log) × LogsOk k u
+
+  step-log : (budget : ℕ) → LogsOk k s → (o : Outcome) → Step k budget s o → After Grown (λ v u. Grown u) o
+  unfolding setUnit logInstance decide afterConflict
+  step-log budget ok o (unit l a) = (λ g m. m, ok)
+  step-log budget ok o (undone t a e) = (λ g m. m, ok)
+  step-log budget ok o (refuted a e) = (λ g m. m, ok)
+  step-log budget ok o (logs i a e h) = (λ g m. Memᴰ·append-left (loggedOf (s .trail) i ∷ []) m, log-more (loggedOf (s .trail) i) ok (log-ok i e))
+  step-log budget ok o (overflows i a e h) = (λ g m. m, ok)
+  step-log budget ok o (decides a n m e h) = (λ g m. m, ok)
+  step-log budget ok o (overspends a n m e h) = (λ g m. m, ok)
+  step-log budget ok o (rests n m e) = (λ g m. m, ok)
+
+-- ── the invariant ──
+
+module _ (k : Task) (W : World) where
+  pub record Inv (s : State) : Type 0 where
+    pub trailed : Ok k W (s .trail)
+    pub logOk : LogsOk k s
+
+  pub start-inv : Inv (start k)
+  unfolding start
+  start-inv = record { trailed = bare; logOk = λ g m. absurd (List·Memᴰ·not-nil m) }
+
+  -- candidates have to obey the log of the state
+  abbrev pub Obeyed : State → Type 0
+  Obeyed s = (g : Logged) → g ∈ s .log → W .obeyed g
+
+  -- what UNSAT tells of the candidates, and UNKNOWN of the state
   abbrev pub Tells : Verdict → State → Type 0
-  Tells Unsat s = (σ : Choice) → Fails k σ
-  Tells Unknown s = FirstChoice k (s .trail)
+  Tells Unsat s = (x : W .Candidate) → W .out x
+  Tells Unknown s = (nextAct k s ≡ none) × (nextInstance k s ≡ none) × (nextGoal k s ≡ none)
   Tells Spent s = Unit {0}
   Tells Full s = Unit {0}
 
   -- the invariant, to the end, and what the answer tells
   abbrev pub InvTells : Verdict → State → Type 0
-  InvTells v s = Inv k s × Tells v s
+  InvTells v s = Inv s × Tells v s
 
-  backtracked : (s : State) (v : Inv k s) → nextAct k s ≡ some conflict → BacktrackOk k (choiceWorld k) (inv-knows k s v) (backtrack (s .trail))
-  backtracked s v a = backtrack-ok k (choiceWorld k) (inv-knows k s v) (v .trailed) (inv-act k s v conflict a)
+  module _ (laws : Laws k W) where
+    module _ (budget : ℕ) (s : State) (obeyed : Obeyed s) (v : Inv s) where
+      backtracked : nextAct k s ≡ some conflict → BacktrackOk k W (backtrack (s .trail))
+      backtracked a = backtrack-ok k W laws (v .trailed) (act-ok k W laws s (v .trailed) (v .logOk) obeyed conflict a)
 
-  pub step-inv : (budget : ℕ) (s : State) → Inv k s → (o : Outcome) → Step k budget s o → After (Inv k) InvTells o
-  unfolding setUnit logInstance decide afterConflict
-  step-inv budget s v o (unit l a) =
-      record { trailed = unit-next k (choiceWorld k) (inv-act k s v (force l) a) (v .trailed); logOk = v .logOk }
-  step-inv budget s v o (undone t a e) =
-      record { trailed = subst (BacktrackOk k (choiceWorld k) (inv-knows k s v)) e (backtracked s v a); logOk = v .logOk }
-  step-inv budget s v o (refuted a e) =
-      (record { trailed = v .trailed; logOk = v .logOk }, subst (BacktrackOk k (choiceWorld k) (inv-knows k s v)) e (backtracked s v a))
-  step-inv budget s v o (logs i a e h) =
-      record { trailed = v .trailed; logOk = log-more k s (loggedOf (s .trail) i) (v .logOk) (log-ok k s i e) }
-  step-inv budget s v o (overflows i a e h) = (v, tt)
-  step-inv budget s v o (decides a n m e h) =
-      record { trailed = decision-next k (choiceWorld k) s a e (v .trailed); logOk = v .logOk }
-  step-inv budget s v o (overspends a n m e h) = (v, tt)
-  step-inv budget s v o (rests n m e) = (v, first-choice k s (v .trailed) n m e)
+      step-trail : (o : Outcome) → Step k budget s o → After (λ u. Ok k W (u .trail)) (λ w u. Ok k W (u .trail) × Tells w u) o
+      unfolding setUnit logInstance decide afterConflict
+      step-trail o (unit l a) = unit-next k W (act-ok k W laws s (v .trailed) (v .logOk) obeyed (force l) a) (v .trailed)
+      step-trail o (undone t a e) = subst (BacktrackOk k W) e (backtracked a)
+      step-trail o (refuted a e) = (v .trailed, subst (BacktrackOk k W) e (backtracked a))
+      step-trail o (logs i a e h) = v .trailed
+      step-trail o (overflows i a e h) = (v .trailed, tt)
+      step-trail o (decides a n m e h) = decision-next k W s a e (v .trailed)
+      step-trail o (overspends a n m e h) = (v .trailed, tt)
+      step-trail o (rests n m e) = (v .trailed, (n, m, e))
 
-  search-tells : (budget : ℕ) → After (Inv k) InvTells (searchTask k budget)
-  unfolding searchTask
-  search-tells budget = run-keeps k budget (Inv k) InvTells (step-inv budget) (enough budget) (start k) (start-inv k)
+      pub step-inv : (o : Outcome) → Step k budget s o → After Inv InvTells o
+      step-inv (more u) d = record { trailed = step-trail (more u) d; logOk = step-log k s budget (v .logOk) (more u) d .1 }
+      step-inv (done w u) d =
+          let (trailed, tells) = step-trail (done w u) d in
+          (record { trailed = trailed; logOk = step-log k s budget (v .logOk) (done w u) d .1 }, tells)
 
-  pub search-inv : (budget : ℕ) (v : Verdict) (s : State) → searchTask k budget ≡ done v s → Inv k s
-  search-inv budget v s e = (subst (After (Inv k) InvTells) e (search-tells budget)) .0
+    -- ── a search ──
 
-  -- UNSAT: every choice of the goal's atoms breaks a goal clause, or its closure has a clash
-  pub unsat-means : (budget : ℕ) (s : State) → searchTask k budget ≡ done Unsat s → (σ : Choice) → Fails k σ
-  unsat-means budget s e = (subst (After (Inv k) InvTells) e (search-tells budget)) .1
+    -- the log is of instances, and where it is obeyed the invariant holds
+    abbrev Follows : State → Type 0
+    Follows s = LogsOk k s × (Obeyed s → Inv s)
 
-  -- UNKNOWN: the setting is the first choice that does neither, and what is true is its closure
-  pub unknown-means : (budget : ℕ) (s : State) → searchTask k budget ≡ done Unknown s → FirstChoice k (s .trail)
-  unknown-means budget s e = (subst (After (Inv k) InvTells) e (search-tells budget)) .1
+    abbrev FollowsTells : Verdict → State → Type 0
+    FollowsTells v s = LogsOk k s × (Obeyed s → InvTells v s)
+
+    -- where the log of a later state is obeyed, so is that of an earlier one
+    step-follows : (budget : ℕ) (s : State) → Follows s → (o : Outcome) → Step k budget s o → After Follows FollowsTells o
+    step-follows budget s (ok, inv) (more u) d =
+        let (kept, more-ok) = step-log k s budget ok (more u) d in
+        (more-ok, λ obeyed. let now : Obeyed s = λ g m. obeyed g (kept g m) in step-inv budget s now (inv now) (more u) d)
+    step-follows budget s (ok, inv) (done w u) d =
+        let (kept, more-ok) = step-log k s budget ok (done w u) d in
+        (more-ok, λ obeyed. let now : Obeyed s = λ g m. obeyed g (kept g m) in step-inv budget s now (inv now) (done w u) d)
+
+    pub search-inv : (budget : ℕ) (v : Verdict) (s : State) → searchTask k budget ≡ done v s → LogsOk k s × (Obeyed s → InvTells v s)
+    unfolding searchTask
+    search-inv budget v s e =
+        subst (After Follows FollowsTells) e (run-keeps k budget Follows FollowsTells (step-follows budget) (enough budget) (start k) (start-inv .logOk, λ obeyed. start-inv))

@@ -1,23 +1,26 @@
 -- The candidates are choices: each has the literals of its closure, and is ruled out if it breaks a goal clause or leads to
--- a clash. What the trail's invariant asks of candidates holds of them. Assumes nothing.
-use mathlib.Core.Path.{_≡_, refl, sym, subst}
+-- a clash. What the invariant asks of candidates holds of them, so UNSAT means what document 01 says. Assumes nothing.
+use Prim.Native.Nat.{ℕ}
+use mathlib.Core.Path.{_≡_, sym, subst}
 use mathlib.Core.Logic.{_⊎_, inl, inr}
 use mathlib.Core.Option.{some}
-use mathlib.Core.List.{List, List·Memᴰ·not-nil, List·Memᴰ·append-cases, List·Memᴰ·eq-of-singleton}
 use Rattle.definitions.specs.Lists.{_∈_}
 use Rattle.definitions.specs.Words.{Literal, negate, Clause, goalAtoms}
 use Rattle.definitions.specs.Instances.{Instance, Task}
 use Rattle.definitions.specs.Meaning.{Choice, Makes, Closure, chosen, derived, bothSigns, falseBody, Fails}
-use Rattle.definitions.specs.Search.{Logged, clauseOf, State, start, Act, nextAct, loggedOf, nextInstance, logInstance}
+use Rattle.definitions.specs.Search.{Logged, clauseOf, State, Act, nextAct, done, searchTask}
+use Rattle.definitions.specs.declared.Verdict.{Verdict}
+use Rattle.definitions.specs.declared.Verdict.the-variants.{Unsat}
 use Rattle.theory.specs.Tests.{by-option}
 use Rattle.theory.specs.ListLaws.{all-or-else}
 use Rattle.theory.specs.WordLaws.{negate-negate, negate-atom, makes-one, goal-of}
-use Rattle.theory.specs.SearchLaws.{clause-head, clause-taken, fired}
-use Rattle.theory.specs.Trail.{World, LogOk, Refutes, Ok, bare, Knows, ActOk, act-ok}
+use Rattle.theory.specs.SearchLaws.{clause-head, clause-taken}
+use Rattle.theory.specs.Trail.{World, LogOk, Refutes, Laws, ActOk, act-ok}
+use Rattle.theory.specs.Answers.{Inv, InvTells, search-inv}
 
 module _ (k : Task) where
   abbrev pub choiceWorld : World
-  choiceWorld = record { Candidate = Choice; has = λ σ l. Closure k σ l ⊎ Fails k σ; out = Fails k; out-has = λ σ l f. inr f }
+  choiceWorld = record { Candidate = Choice; has = λ σ l. Closure k σ l ⊎ Fails k σ; out = Fails k; out-has = λ σ l f. inr f; obeyed = LogOk k }
 
   -- a choice whose closure has the negation of each literal of a goal clause breaks it, or has both signs of one
   goal-refutes : (c : Clause) → c ∈ k .clauses → Refutes k choiceWorld c
@@ -54,43 +57,26 @@ module _ (k : Task) where
         | inr f ↦ f
       ]
 
-  pub choices-know : (log : List Logged) → ((g : Logged) → g ∈ log → LogOk k g) → Knows k choiceWorld log
-  choices-know log ok =
+  pub choice-laws : Laws k choiceWorld
+  choice-laws =
       record {
         total = λ σ l m. elim (makes-one σ l) [ inl y ↦ inl (inl (chosen m y)) | inr y ↦ inr (inl (chosen (subst (λ a. a ∈ goalAtoms (k .clauses)) (sym (negate-atom l)) m) y)) ];
         goals = goal-refutes;
-        logged = λ g i. logged-refutes g (ok g i);
-        gives = λ g i l e σ h. elim (heads-or-fails σ (g .instance) h) [
-          | inl hs ↦ inl (derived (g .instance) (ok g i .its) hs (ok g i .taken l e))
+        logged = logged-refutes;
+        gives = λ g ok l e σ h. elim (heads-or-fails σ (g .instance) h) [
+          | inl hs ↦ inl (derived (g .instance) (ok .its) hs (ok .taken l e))
           | inr f ↦ inr f
         ];
       }
 
-  -- ── the invariant of the search ──
+  -- ── the invariant of the search: choices obey every clause that comes from an instance ──
 
-  pub record Inv (s : State) : Type 0 where
-    pub trailed : Ok k choiceWorld (s .trail)
-    pub logOk : (g : Logged) → g ∈ s .log → LogOk k g
+  pub inv-act : (s : State) (v : Inv k choiceWorld s) (a : Act) → nextAct k s ≡ some a → ActOk k choiceWorld (s .trail) a
+  inv-act s v = act-ok k choiceWorld choice-laws s (v .trailed) (v .logOk) (v .logOk)
 
-  pub start-inv : Inv (start k)
-  unfolding start
-  start-inv = record { trailed = bare; logOk = λ g m. absurd (List·Memᴰ·not-nil m) }
+  pub search-tells : (budget : ℕ) (v : Verdict) (s : State) → searchTask k budget ≡ done v s → InvTells k choiceWorld v s
+  search-tells budget v s e = let (ok, tells) = search-inv k choiceWorld choice-laws budget v s e in tells ok
 
-  pub inv-knows : (s : State) → Inv s → Knows k choiceWorld (s .log)
-  inv-knows s v = choices-know (s .log) (v .logOk)
-
-  pub inv-act : (s : State) (v : Inv s) (a : Act) → nextAct k s ≡ some a → ActOk k choiceWorld (s .trail) a
-  inv-act s v a e = act-ok k choiceWorld (inv-knows s v) s refl (v .trailed) (v .logOk) a e
-
-  -- a logged instance is one of the list
-  pub log-ok : (s : State) (i : Instance) → nextInstance k s ≡ some i → LogOk k (loggedOf (s .trail) i)
-  unfolding loggedOf
-  log-ok s i e = let f = fired k s i e in record { its = f .its; taken = λ l q. f .taken l q .0; bodiless = f .bodiless }
-
-  pub log-more : (s : State) (g : Logged) → ((x : Logged) → x ∈ s .log → LogOk k x) → LogOk k g → (x : Logged) → x ∈ logInstance s g .log → LogOk k x
-  unfolding logInstance
-  log-more s g ok new x m =
-      elim (List·Memᴰ·append-cases (s .log) m) [
-        | inl n ↦ ok x n
-        | inr n ↦ subst (LogOk k) (sym (List·Memᴰ·eq-of-singleton n)) new
-      ]
+  -- UNSAT: every choice of the goal's atoms breaks a goal clause, or its closure has a clash
+  pub unsat-means : (budget : ℕ) (s : State) → searchTask k budget ≡ done Unsat s → (σ : Choice) → Fails k σ
+  unsat-means budget s e = search-tells budget Unsat s e .1

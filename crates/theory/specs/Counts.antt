@@ -12,7 +12,8 @@ use borrow.Author.Tests.{leb-false, ltb-true, ltb-false}
 use Rattle.definitions.specs.Lists.{_∈_, any, all}
 use Rattle.definitions.specs.Words.{Atom, Literal, sameAtom, goalAtoms}
 use Rattle.definitions.specs.Instances.{Instance, Task}
-use Rattle.definitions.specs.Search.{Trail, isTrue, isFalse, Logged, clauseOf, State, start, notFalse, actOn, isGoal, nextAct, nextInstance, loggedOf, enter, enterTaken, nextGoal, setUnit, logInstance, decide, afterConflict, Outcome, done, hasRoom, run, enough, searchTask}
+use Rattle.definitions.specs.Search.{Trail, isTrue, isFalse, Logged, clauseOf, State, start, notFalse, actOn, isGoal, nextAct, nextInstance, loggedOf, enter, enterTaken, setUnit, logInstance, decide, afterConflict, Outcome, done, hasRoom, run, enough, searchTask}
+use Rattle.definitions.specs.Verdicts.{SpentWhen, NoRoom, clause513, atom257, FullWhen}
 use Rattle.definitions.specs.declared.Verdict.{Verdict}
 use Rattle.definitions.specs.declared.Verdict.the-variants.{Unsat, Unknown, Spent, Full}
 use Rattle.theory.specs.Tests.{by-test, by-option, none≢some, some-injective, and-intro, or-right, true-and-false}
@@ -78,14 +79,6 @@ conflicts-at-most-decisions-plus-1 k budget v s e = by v (search-counts k budget
 
 -- ── SPENT ──
 
--- nothing is left for A and B, a goal atom is unset, and the budget is used up
-pub record SpentWhen (k : Task) (budget : ℕ) (s : State) : Type 0 where
-  pub noAct : nextAct k s ≡ none
-  pub noInstance : nextInstance k s ≡ none
-  pub goal : Atom
-  pub unset : nextGoal k s ≡ some goal
-  pub usedUp : s .decisions ≡ budget
-
 abbrev SpentTells : Task → ℕ → Verdict → State → Type 0
 SpentTells k budget Unsat s = Unit {0}
 SpentTells k budget Unknown s = Unit {0}
@@ -110,18 +103,6 @@ spent-only-when k budget s e =
     (run-keeps k budget (Counted budget) (SpentTells k budget) (step-spent k budget) (enough budget) (start k) (start-counted k budget))
 
 -- ── FULL ──
-
--- what there is no room for: a 513th clause in the log, or a 257th atom in the table
-pub data NoRoom (s : State) (g : Logged) : Type 0 where
-  clause513 : length (s .log) ≡ 512 → NoRoom s g
-  atom257 : length (enterTaken (s .table) (g .taken)) ≡ 257 → NoRoom s g
-
--- nothing is left for A, and B needs a 513th clause or a 257th atom
-pub record FullWhen (k : Task) (s : State) : Type 0 where
-  pub noAct : nextAct k s ≡ none
-  pub instance : Instance
-  pub next : nextInstance k s ≡ some instance
-  pub noRoom : NoRoom s (loggedOf (s .trail) instance)
 
 -- at most one atom enters
 enter-length : (table : List Atom) (a : Atom) → length (enter table a) ≤ suc (length table)

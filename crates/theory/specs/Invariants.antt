@@ -13,8 +13,8 @@ use Rattle.theory.specs.ListLaws.{Different}
 use Rattle.theory.specs.TableLaws.{enter-different, enter-behind, goal-atoms-different}
 use Rattle.theory.specs.Steps.{Step, unit, undone, refuted, logs, overflows, decides, overspends, rests, After}
 use Rattle.theory.specs.Ends.{Fits, start-fits, step-fits}
-use Rattle.theory.specs.Choices.{Inv, start-inv}
-use Rattle.theory.specs.Answers.{step-inv}
+use Rattle.theory.specs.Answers.{Inv, start-inv, step-inv}
+use Rattle.theory.specs.Choices.{choiceWorld, choice-laws}
 use Rattle.theory.specs.Sources.{Sourced, step-sourced}
 
 -- ── the table ──
@@ -54,16 +54,16 @@ start-tabled k = record { created = []; split = sym (append-nil (goalAtoms (k .c
 
 pub record Sound (k : Task) (s : State) : Type 0 where
   pub fits : Fits k s
-  pub inv : Inv k s
+  pub inv : Inv k (choiceWorld k) s
   pub sourced : Sourced k s
   pub tabled : Tabled k s
 
 pub start-sound : (k : Task) → length (goalAtoms (k .clauses)) ≤ 256 → Sound k (start k)
 unfolding start
-start-sound k h = record { fits = start-fits k h; inv = start-inv k; sourced = λ a m. inl m; tabled = start-tabled k }
+start-sound k h = record { fits = start-fits k h; inv = start-inv k (choiceWorld k); sourced = λ a m. inl m; tabled = start-tabled k }
 
 pub step-sound : (k : Task) (budget : ℕ) (s : State) → Sound k s → (o : Outcome) → Step k budget s o → After (Sound k) (λ v s. Sound k s) o
 step-sound k budget s c (more u) d =
-    record { fits = step-fits k budget s (c .fits) (more u) d; inv = step-inv k budget s (c .inv) (more u) d; sourced = step-sourced k budget s (c .sourced) (more u) d; tabled = step-tabled k budget s (c .tabled) (more u) d }
+    record { fits = step-fits k budget s (c .fits) (more u) d; inv = step-inv k (choiceWorld k) (choice-laws k) budget s (c .inv .logOk) (c .inv) (more u) d; sourced = step-sourced k budget s (c .sourced) (more u) d; tabled = step-tabled k budget s (c .tabled) (more u) d }
 step-sound k budget s c (done v u) d =
-    record { fits = step-fits k budget s (c .fits) (done v u) d; inv = step-inv k budget s (c .inv) (done v u) d .0; sourced = step-sourced k budget s (c .sourced) (done v u) d; tabled = step-tabled k budget s (c .tabled) (done v u) d }
+    record { fits = step-fits k budget s (c .fits) (done v u) d; inv = step-inv k (choiceWorld k) (choice-laws k) budget s (c .inv .logOk) (c .inv) (done v u) d .0; sourced = step-sourced k budget s (c .sourced) (done v u) d; tabled = step-tabled k budget s (c .tabled) (done v u) d }

@@ -9,11 +9,12 @@ use Rattle.definitions.specs.Words.{Atom, Literal, Clause, Rule, Problem, goalA
 use Rattle.definitions.specs.Instances.{ground, variables, Instance, Task, taskOf}
 use Rattle.definitions.specs.Meaning.{Assignment, Choice, Makes, Closure, chosen, derived, bothSigns, falseBody, Fails, SatisfiesClause, SatisfiesFilling, headFalse, bodyTrue, Satisfies}
 use Rattle.definitions.specs.Search.{State, done, searchTask, search}
+use Rattle.definitions.specs.Verdicts.{setting}
 use Rattle.definitions.specs.declared.Verdict.the-variants.{Unsat, Unknown}
 use Rattle.theory.specs.WordLaws.{makes-not-both, goal-of, goal-from}
 use Rattle.theory.specs.InstanceLaws.{substitutions-more, Found, Filled, instance-filled, filled-instance}
-use Rattle.theory.specs.Unknown.{setting}
-use Rattle.theory.specs.Answers.{unsat-means, unknown-means}
+use Rattle.theory.specs.Choices.{unsat-means}
+use Rattle.theory.specs.Unknown.{unknown-means}
 
 -- ── tasks ──
 

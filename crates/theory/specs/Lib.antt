@@ -8,9 +8,9 @@ pub mod Steps
 pub mod Ends
 pub mod Counts
 pub mod Trail
+pub mod Answers
 pub mod Choices
 pub mod Unknown
-pub mod Answers
 pub mod Larger
 pub mod AskedLaws
 pub mod Reading
@@ -20,7 +20,8 @@ pub mod Sources
 pub mod Invariants
 pub mod ListingLaws
 pub mod Sizes
-pub mod Demand3
 pub mod Theorems
+pub mod CallLaws
+pub mod Demand3
 pub mod Quiet
 pub mod PlaceLaws

@@ -20,7 +20,7 @@ use Rattle.theory.specs.InstanceLaws.{substitution-sound, instance-fille
 use Rattle.theory.specs.Counts.{decisions-within-budget, conflicts-at-most-decisions-plus-1, limits-kept}
 use Rattle.theory.specs.Sources.{search-sourced}
 use Rattle.theory.specs.Unknown.{consistent}
-use Rattle.theory.specs.Answers.{search-inv}
+use Rattle.theory.specs.Choices.{search-tells}
 use Rattle.theory.specs.Limits.{TermLimits, PatternLimits, LiteralLimits, Limits, arity-limit}
 use Rattle.theory.specs.ListingLaws.{AtomListable, Listable}
 
@@ -103,7 +103,7 @@ module _ (p : Problem) (limits : Limits p) where
   search-listable budget h v s e =
       let (tableSize, logSize) = limits-kept (taskOf p) budget v s few e in
       let decided = decisions-within-budget (taskOf p) budget v s e in
-      let inv = search-inv (taskOf p) budget v s e in
+      let inv = search-tells (taskOf p) budget v s e .0 in
       record {
         table = tableSize;
         log = logSize;

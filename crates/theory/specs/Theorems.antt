@@ -12,6 +12,7 @@ use Rattle.definitions.specs.Instances.{taskOf}
 use Rattle.definitions.specs.Meaning.{Choice, Fails}
 use Rattle.definitions.specs.Questions.{Reading, refused, accepted, read}
 use Rattle.definitions.specs.Search.{State, Outcome, done, search}
+use Rattle.definitions.specs.Verdicts.{FirstChoice, SpentWhen, FullWhen}
 use Rattle.definitions.specs.Listing.{Field, listingLines, listing}
 use Rattle.definitions.specs.Call.{unended, searched, answered, result}
 use Rattle.definitions.specs.declared.Verdict.{Verdict}
@@ -20,9 +21,9 @@ use Rattle.theory.specs.Tests.{by-test, apart}
 use Rattle.theory.specs.ListLaws.{Different}
 use Rattle.theory.specs.Steps.{Ended}
 use Rattle.theory.specs.Ends.{search-ends}
-use Rattle.theory.specs.Counts.{decisions-within-budget, conflicts-at-most-decisions-plus-1, SpentWhen, spent-only-when, FullWhen, full-only-when, limits-kept, no-instance-logged-twice}
-use Rattle.theory.specs.Unknown.{FirstChoice}
-use Rattle.theory.specs.Answers.{unsat-means, unknown-means}
+use Rattle.theory.specs.Counts.{decisions-within-budget, conflicts-at-most-decisions-plus-1, spent-only-when, full-only-when, limits-kept, no-instance-logged-twice}
+use Rattle.theory.specs.Choices.{unsat-means}
+use Rattle.theory.specs.Unknown.{unknown-means}
 use Rattle.theory.specs.Limits.{accepted-limits}
 use Rattle.theory.specs.ListingLaws.{FieldFits, listing-fits, listing-length}
 use Rattle.theory.specs.Sizes.{search-listable}

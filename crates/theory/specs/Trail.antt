@@ -2,7 +2,7 @@
 -- that every candidate with the decisions before it has. Unit propagation, decisions and backtracking keep it. Assumes nothing.
 use mathlib.Core.Path.{_≡_, refl, sym, ap, subst, _∙_}
 use mathlib.Core.Logic.{_⊎_, inl, inr}
-use mathlib.Core.Bool.{Bool, true, false}
+use mathlib.Core.Bool.{true, false}
 use mathlib.Core.Option.{Option, none, some}
 use mathlib.Core.List.{List, [], _∷_, _++_, List·Memᴰ·tail, List·Memᴰ·cases-cons, List·Memᴰ·not-nil}
 use Rattle.definitions.specs.Lists.{_∈_, all}
@@ -14,13 +14,14 @@ use Rattle.theory.specs.ListLaws.{at-split, in-along, all-each}
 use Rattle.theory.specs.WordLaws.{negate-negate, negate-atom, goal-of}
 use Rattle.theory.specs.SearchLaws.{true-at, unset-not-false, unset-negate, clause-cases, conflict-false, Unit, force-unit, Alone, isGoal-in, mayLogged, act-from, goal-first}
 
--- candidates for an answer: the literals that each has, and what it is that rules one out. One that is ruled out has
--- every literal, so that nothing need be shown of it
+-- candidates for an answer: the literals that each has, what it is that rules one out, and the logged clauses that it has
+-- to obey. One that is ruled out has every literal, so that nothing need be shown of it
 pub record World : Type 1 where
   pub Candidate : Type 0
   pub has : Candidate → Literal → Type 0
   pub out : Candidate → Type 0
   pub out-has : (x : Candidate) (l : Literal) → out x → has x l
+  pub obeyed : Logged → Type 0
 
 -- an instance whose heads are all true gives the literal
 pub record Gave (k : Task) (t : Trail) (l : Literal) : Type 0 where
@@ -80,12 +81,13 @@ module _ (k : Task) (W : World) where
     bare : Ok []
     next : {e : Entry} {t : Trail} → isUnset t (e .literal) ≡ true → Decision k t e ⊎ Consequence t e → Ok t → Ok (e ∷ t)
 
-  -- what the candidates must know of the goal clauses and the log
-  pub record Knows (log : List Logged) : Type 0 where
+  -- what is asked of candidates: each has one literal of every goal atom, a goal clause or a logged clause that it makes false rules it
+  -- out, and with the heads of a logged clause it has the literal that was taken
+  pub record Laws : Type 0 where
     pub total : (x : W .Candidate) (l : Literal) → l .atom ∈ goalAtoms (k .clauses) → W .has x l ⊎ W .has x (negate l)
     pub goals : (c : Clause) → c ∈ k .clauses → Refutes c
-    pub logged : (g : Logged) → g ∈ log → Refutes (clauseOf g)
-    pub gives : (g : Logged) → g ∈ log → (l : Literal) → g .taken ≡ some l → (x : W .Candidate)
+    pub logged : (g : Logged) → W .obeyed g → Refutes (clauseOf g)
+    pub gives : (g : Logged) → W .obeyed g → (l : Literal) → g .taken ≡ some l → (x : W .Candidate)
         → ((h : Literal) → h ∈ g .instance .heads → W .has x h) → W .has x l
 
   -- ── what is true, every candidate with the decisions has ──
@@ -127,17 +129,22 @@ module _ (k : Task) (W : World) where
   ActOk t conflict = Never t
   ActOk t (force l) = UnitOk t l
 
-  module _ {log : List Logged} (known : Knows log) where
+  -- what backtracking comes to: every candidate is ruled out, or the trail is as it should be
+  abbrev pub BacktrackOk : Option Trail → Type 0
+  BacktrackOk none = (x : W .Candidate) → W .out x
+  BacktrackOk (some t) = Ok t
+
+  module _ (laws : Laws) where
     module _ {t : Trail} (o : Ok t) where
-      conflict-never : (may : Literal → Bool) (c : Clause) → Refutes c → ((l : Literal) → l ∈ c → isFalse t l ≡ true) → Never t
+      conflict-never : (c : Clause) → Refutes c → ((l : Literal) → l ∈ c → isFalse t l ≡ true) → Never t
       unfolding isFalse
-      conflict-never may c r f x a = r x (λ l m. true-must o (negate l) (f l m) x a)
+      conflict-never c r f x a = r x (λ l m. true-must o (negate l) (f l m) x a)
 
       -- a literal of a goal atom that stands alone is had, since its negation would refute the clause
       alone-must : (c : Clause) → Refutes c → (l : Literal) → Alone t c l → l .atom ∈ goalAtoms (k .clauses) → Must t l
       unfolding isFalse
       alone-must c r l f g x a =
-          elim (known .total x l g) [
+          elim (laws .total x l g) [
             | inl y ↦ y
             | inr y ↦ W .out-has x l (r x (λ m n. elim (f m n) [
               | inl s ↦ true-must o (negate m) s x a
@@ -148,7 +155,7 @@ module _ (k : Task) (W : World) where
       goal-act : (c : Clause) → c ∈ k .clauses → (l : Literal) → Unit t (isGoal k) c l → UnitOk t l
       goal-act c i l u =
           let g = goal-of (k .clauses) c l i (u .inside) in
-          record { unset = u .unset; must = alone-must c (known .goals c i) l (u .alone) g; source = inl g }
+          record { unset = u .unset; must = alone-must c (laws .goals c i) l (u .alone) g; source = inl g }
 
       -- where all heads are true, the unset literal is the one that the instance gives
       taken-of : (g : Logged) (l : Literal) → l ∈ clauseOf g → isUnset t l ≡ true → all (isTrue t) (g .instance .heads) ≡ true → g .taken ≡ some l
@@ -159,37 +166,33 @@ module _ (k : Task) (W : World) where
             | inr e ↦ e
           ]
 
-      logged-act : (g : Logged) → g ∈ log → LogOk k g → (l : Literal) → Unit t (mayLogged k t g) (clauseOf g) l → UnitOk t l
-      logged-act g i ok l u =
+      logged-act : (g : Logged) → W .obeyed g → LogOk k g → (l : Literal) → Unit t (mayLogged k t g) (clauseOf g) l → UnitOk t l
+      logged-act g obeyed ok l u =
           elim (or-cases (isGoal k l) (all (isTrue t) (g .instance .heads)) (u .allowed)) [
-            | inl w ↦ let a = isGoal-in k l w in record { unset = u .unset; must = alone-must (clauseOf g) (known .logged g i) l (u .alone) a; source = inl a }
+            | inl w ↦ let a = isGoal-in k l w in record { unset = u .unset; must = alone-must (clauseOf g) (laws .logged g obeyed) l (u .alone) a; source = inl a }
             | inr w ↦ let q = taken-of g l (u .inside) (u .unset) w in
                 let true-heads = all-each (isTrue t) (g .instance .heads) w in
                 record {
                   unset = u .unset;
-                  must = λ x a. known .gives g i l q x (λ h m. true-must o h (true-heads h m) x a);
+                  must = λ x a. laws .gives g obeyed l q x (λ h m. true-must o h (true-heads h m) x a);
                   source = inr (record { instance = g .instance; its = ok .its; heads = true-heads; inside = ok .taken l q });
                 }
           ]
 
-    pub act-ok : (s : State) → s .log ≡ log → Ok (s .trail) → ((g : Logged) → g ∈ log → LogOk k g) → (a : Act) → nextAct k s ≡ some a → ActOk (s .trail) a
-    act-ok s q o ok conflict e =
+    pub act-ok : (s : State) → Ok (s .trail) → ((g : Logged) → g ∈ s .log → LogOk k g) → ((g : Logged) → g ∈ s .log → W .obeyed g)
+        → (a : Act) → nextAct k s ≡ some a → ActOk (s .trail) a
+    act-ok s o ok obeyed conflict e =
         elim (act-from k s conflict e) [
-          | inl r ↦ conflict-never o (isGoal k) (r .0) (known .goals (r .0) (r .1)) (conflict-false (s .trail) (isGoal k) (r .0) (r .2))
-          | inr r ↦ conflict-never o (mayLogged k (s .trail) (r .0)) (clauseOf (r .0)) (known .logged (r .0) (subst (λ gs. r .0 ∈ gs) q (r .1))) (conflict-false (s .trail) (mayLogged k (s .trail) (r .0)) (clauseOf (r .0)) (r .2))
+          | inl r ↦ conflict-never o (r .0) (laws .goals (r .0) (r .1)) (conflict-false (s .trail) (isGoal k) (r .0) (r .2))
+          | inr r ↦ conflict-never o (clauseOf (r .0)) (laws .logged (r .0) (obeyed (r .0) (r .1))) (conflict-false (s .trail) (mayLogged k (s .trail) (r .0)) (clauseOf (r .0)) (r .2))
         ]
-    act-ok s q o ok (force l) e =
+    act-ok s o ok obeyed (force l) e =
         elim (act-from k s (force l) e) [
           | inl r ↦ goal-act o (r .0) (r .1) l (force-unit (s .trail) (isGoal k) (r .0) l (r .2))
-          | inr r ↦ let i = subst (λ gs. r .0 ∈ gs) q (r .1) in
-              logged-act o (r .0) i (ok (r .0) i) l (force-unit (s .trail) (mayLogged k (s .trail) (r .0)) (clauseOf (r .0)) l (r .2))
+          | inr r ↦ logged-act o (r .0) (obeyed (r .0) (r .1)) (ok (r .0) (r .1)) l (force-unit (s .trail) (mayLogged k (s .trail) (r .0)) (clauseOf (r .0)) l (r .2))
         ]
 
     -- ── backtracking ──
-
-    abbrev pub BacktrackOk : Option Trail → Type 0
-    BacktrackOk none = (x : W .Candidate) → W .out x
-    BacktrackOk (some t) = Ok t
 
     -- no candidate with the decisions before it has the decision, so each has its negation
     flip-ok : (e : Entry) (t : Trail) → Decision k t e → isUnset t (e .literal) ≡ true → Ok t → Never (e ∷ t)
@@ -202,7 +205,7 @@ module _ (k : Task) (W : World) where
 
         must : Must t (negate (e .literal))
         must x a =
-            elim (known .total x (e .literal) goal) [
+            elim (laws .total x (e .literal) goal) [
               | inl y ↦ W .out-has x (negate (e .literal)) (no-one x (agrees-more x e t (λ w. y) a))
               | inr y ↦ y
             ]

@@ -1,5 +1,6 @@
 -- What UNKNOWN tells: the setting of the goal atoms is the first choice that fails in neither way, and what is true is its
 -- closure. Assumes nothing.
+use Prim.Native.Nat.{ℕ}
 use mathlib.Core.Path.{_≡_, sym, ap, subst, _∙_}
 use mathlib.Core.Logic.{_⊎_, inl, inr}
 use mathlib.Core.Bool.{true, false, false≢true}
@@ -9,24 +10,15 @@ use Rattle.definitions.specs.Lists.{_∈_, any}
 use Rattle.definitions.specs.Words.{Atom, Literal, negate, plain, goalAtoms}
 use Rattle.definitions.specs.Instances.{Task}
 use Rattle.definitions.specs.Meaning.{Choice, Makes, Closure, chosen, derived, bothSigns, falseBody, Breaks, Fails, Earlier}
-use Rattle.definitions.specs.Search.{decided, Entry, Trail, isTrue, isFalse, isUnset, State, isGoal, nextAct, nextInstance, nextGoal}
+use Rattle.definitions.specs.Search.{decided, Entry, Trail, isTrue, isFalse, isUnset, State, isGoal, nextAct, nextInstance, nextGoal, done, searchTask}
+use Rattle.definitions.specs.Verdicts.{setting, FirstChoice}
+use Rattle.definitions.specs.declared.Verdict.the-variants.{Unknown}
 use Rattle.theory.specs.Tests.{by-test, true-and-false, none≢some}
 use Rattle.theory.specs.ListLaws.{at-split, in-along, splits}
 use Rattle.theory.specs.WordLaws.{negate-negate, negate-atom, negate-differs, as-plain, as-negated, goal-of}
 use Rattle.theory.specs.SearchLaws.{true-at, entry-true, true-cases, unset-not-true, unset-not-false, unset-negate, set-cases, set-more, false-conflict, goal-quiet, rests-true, goals-set}
 use Rattle.theory.specs.Trail.{Gave, Decision, decision-goal, Consequence, Agrees, Ok, bare, next}
-use Rattle.theory.specs.Choices.{choiceWorld}
-
--- the choice that is read off a trail
-unfoldable pub setting : Trail → Choice
-setting t a = isTrue t (plain a)
-
-pub record FirstChoice (k : Task) (t : Trail) : Type 0 where
-  pub set : (a : Atom) → a ∈ goalAtoms (k .clauses) → isUnset t (plain a) ≡ false
-  pub neither : Fails k (setting t) → ⊥
-  pub earlier : (τ : Choice) → Earlier k τ (setting t) → Fails k τ
-  pub sound : (l : Literal) → isTrue t l ≡ true → Closure k (setting t) l
-  pub complete : (l : Literal) → Closure k (setting t) l → isTrue t l ≡ true
+use Rattle.theory.specs.Choices.{choiceWorld, search-tells}
 
 module _ (k : Task) where
   -- the trail never holds a literal and its negation
@@ -189,6 +181,9 @@ module _ (k : Task) where
                   | inr f ↦ f
                 ]
 
-    pub first-choice : FirstChoice k (s .trail)
+    first-choice : FirstChoice k (s .trail)
     first-choice =
         record { set = goals-set k s c; neither = fails-in-neither; earlier = earlier-fails; sound = true-closure (s .trail) o; complete = closure-true }
+
+  pub unknown-means : (budget : ℕ) (s : State) → searchTask k budget ≡ done Unknown s → FirstChoice k (s .trail)
+  unknown-means budget s e = let (inv, (a, b, c)) = search-tells k budget Unknown s e in first-choice s (inv .trailed) a b c

@@ -2,7 +2,7 @@
 use mathlib.Core.Path.{sym}
 use lib.Seq.{length-take-le}
 use borrow.Author.Needs.{needs}
-use Rattle.solver.specs.CallLaws.{written-fits}
+use Rattle.solver.specs.SolvingLaws.{written-fits}
 use Rattle.thunyaworm.proofs.main.Statement.{statement}
 use Rattle.thunyaworm.proofs.main.Tie as tie
 
