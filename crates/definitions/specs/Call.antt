@@ -1,10 +1,12 @@
--- Document 01: the call on any bytes, budget and room: question 1, what is handed back, and the room afterwards. Assumes nothing.
+-- Document 01: the call on any bytes, budget and room: question 1, what is handed back, the room afterwards, and what a call
+-- comes to. Assumes nothing.
 use Prim.Native.Nat.{ℕ, _≤_, _<_}
 use mathlib.Core.Path.{_≡_}
 use mathlib.Core.Bool.{true, false}
 use mathlib.Core.List.{List, [], _∷_, _++_}
 use lib.Dec.{leb}
 use lib.ListN.{length, drop}
+use Rattle.definitions.specs.Bounds.{roomBytes}
 use Rattle.definitions.specs.Words.{Problem}
 use Rattle.definitions.specs.Questions.{Reading, refused, accepted, read}
 use Rattle.definitions.specs.Search.{State, Outcome, more, done, search}
@@ -31,7 +33,7 @@ answered (accepted p) budget = searched (search p budget)
 
 -- 1: the lent room has at least 45,056 bytes
 unfoldable pub result : List ℕ → ℕ → List ℕ → Result
-result sheet budget room = elim (leb 45056 (length room)) [ true ↦ answered (read sheet) budget | false ↦ refusal 1 0 ]
+result sheet budget room = elim (leb roomBytes (length room)) [ true ↦ answered (read sheet) budget | false ↦ refusal 1 0 ]
 
 -- what the call hands back
 unfoldable pub answerOf : Result → Answer
@@ -96,9 +98,9 @@ module _ (sheet : List ℕ) (budget : ℕ) (room : List ℕ) where
   -- "the first no ends the call with that number and the line": a room that is too small is refused with 1 and line 0, bytes that are no
   -- proper sheet with the first question that fails and its line; every other call is answered with what the search comes to
   pub data Comes : Type 0 where
-    tooSmall : length room < 45056 → RefusedWith 1 0 → Comes
-    improper : 45056 ≤ length room → (question line : ℕ) → read sheet ≡ refused question line → RefusedWith question line → Comes
-    proper : 45056 ≤ length room → (p : Problem) → read sheet ≡ accepted p → (v : Verdict) (s : State) → search p budget ≡ done v s
+    tooSmall : length room < roomBytes → RefusedWith 1 0 → Comes
+    improper : roomBytes ≤ length room → (question line : ℕ) → read sheet ≡ refused question line → RefusedWith question line → Comes
+    proper : roomBytes ≤ length room → (p : Problem) → read sheet ≡ accepted p → (v : Verdict) (s : State) → search p budget ≡ done v s
         → AnsweredWith v s → Comes
 
   -- "the answer is always the one that the search below comes to for that sheet and the call's budget"

@@ -1,4 +1,5 @@
 pub mod Lists
+pub mod Bounds
 pub mod Words
 pub mod Instances
 pub mod Meaning

@@ -5,6 +5,7 @@ use mathlib.Core.List.{List, [], _∷_, _++_}
 use lib.Dec.{eqb, leb, ltb}
 use lib.ListN.{length, getD}
 use Rattle.definitions.specs.Lists.{isEmpty, all}
+use Rattle.definitions.specs.Bounds.{sheetBytes, lineBytes, mostConstants, mostSymbols, mostArguments, mostVariables, mostRules, mostHeads, mostBody, mostClauses, mostLiterals, mostGoals}
 use Rattle.definitions.specs.Words.{Literal, Clause, Term, variable, constant, Pattern, Rule, Problem, goalAtoms}
 use Rattle.definitions.specs.Instances.{occursIn}
 use Rattle.definitions.specs.Sheet.{Line, lines, Number, Column, number, fault, decimal}
@@ -72,7 +73,7 @@ unfoldable pub ruleArgument : ℕ → Number → Asked Term
 ruleArgument constants n =
     elim (n .negative) [
       | true ↦ ask 10 (leb 1 (n .size) && leb (n .size) constants) >> yes (constant (n .size))
-      | false ↦ ask 10 (leb 1 (n .size) && leb (n .size) 6) >> yes (variable (n .size))
+      | false ↦ ask 10 (leb 1 (n .size) && leb (n .size) mostVariables) >> yes (variable (n .size))
     ]
 
 -- 10: an argument in a clause, a constant from 1
@@ -110,11 +111,11 @@ patternOf positive symbol terms = record { positive = positive; symbol = symbol;
 unfoldable pub literalOf : Bool → ℕ → List ℕ → Literal
 literalOf positive symbol args = record { positive = positive; atom = record { symbol = symbol; args = args } }
 
-unfoldable pub patterns : Problem → ℕ → List Number → Asked (Walk (List Pattern))
-patterns p = literals (ruleArgument (p .constants)) patternOf (p .arities)
+unfoldable pub patterns : ℕ → List ℕ → ℕ → List Number → Asked (Walk (List Pattern))
+patterns constants arities = literals (ruleArgument constants) patternOf arities
 
-unfoldable pub clauseLiterals : Problem → ℕ → List Number → Asked (Walk Clause)
-clauseLiterals p = literals (clauseArgument (p .constants)) literalOf (p .arities)
+unfoldable pub clauseLiterals : ℕ → List ℕ → ℕ → List Number → Asked (Walk Clause)
+clauseLiterals constants arities = literals (clauseArgument constants) literalOf arities
 
 -- 12: each body variable stands in the head
 unfoldable pub inHead : List Pattern → Term → Bool
@@ -123,6 +124,67 @@ inHead heads (constant c) = true
 
 unfoldable pub restricted : Rule → Bool
 restricted r = all (λ (p : Pattern). all (inHead (r .heads)) (p .terms)) (r .body)
+
+-- 8 and 11: the constants of a line of kind 1
+unfoldable pub constantsAsked : List Number → Asked ℕ
+constantsAsked ns = do
+  n ← count 8 1 mostConstants ns
+  ask 11 (isEmpty (n .left))
+  yes (n .found)
+
+-- 8, 9 and 11: the arity of a line of kind 2, where so many symbols stand already
+unfoldable pub arityAsked : ℕ → List Number → Asked ℕ
+arityAsked symbols ns = do
+  arity ← count 8 0 mostArguments ns
+  ask 9 (ltb symbols mostSymbols)
+  ask 11 (isEmpty (arity .left))
+  yes (arity .found)
+
+-- 8: both counts of a line of kind 3
+pub record RuleCounts : Type 0 where
+  pub heads : ℕ
+  pub body : ℕ
+
+unfoldable pub ruleCounts : List Number → Asked (Walk RuleCounts)
+ruleCounts ns = do
+  headCount ← count 8 1 mostHeads ns
+  bodyCount ← count 8 0 mostBody (headCount .left)
+  yes (record { found = record { heads = headCount .found; body = bodyCount .found }; left = bodyCount .left })
+
+-- 10 to 12: the rule that counts and the columns behind them give
+unfoldable pub ruleBehind : ℕ → List ℕ → Walk RuleCounts → Asked Rule
+ruleBehind constants arities counts = do
+  heads ← patterns constants arities (counts .found .heads) (counts .left)
+  body ← patterns constants arities (counts .found .body) (heads .left)
+  ask 11 (isEmpty (body .left))
+  let r : Rule = record { heads = heads .found; body = body .found }
+  ask 12 (restricted r)
+  yes r
+
+-- 8 to 12: the rule of a line of kind 3, where so many rules stand already
+unfoldable pub ruleAsked : ℕ → List ℕ → ℕ → List Number → Asked Rule
+ruleAsked constants arities rules ns = do
+  counts ← ruleCounts ns
+  ask 9 (ltb rules mostRules)
+  ruleBehind constants arities counts
+
+-- 8: the count of a line of kind 4
+unfoldable pub clauseCount : List Number → Asked (Walk ℕ)
+clauseCount = count 8 0 mostLiterals
+
+-- 10 and 11: the clause that a count and the columns behind it give
+unfoldable pub clauseBehind : ℕ → List ℕ → Walk ℕ → Asked Clause
+clauseBehind constants arities literalCount = do
+  c ← clauseLiterals constants arities (literalCount .found) (literalCount .left)
+  ask 11 (isEmpty (c .left))
+  yes (c .found)
+
+-- 8 to 11: the clause of a line of kind 4, where so many clauses stand already
+unfoldable pub clauseAsked : ℕ → List ℕ → ℕ → List Number → Asked Clause
+clauseAsked constants arities clauses ns = do
+  literalCount ← clauseCount ns
+  ask 9 (ltb clauses mostClauses)
+  clauseBehind constants arities literalCount
 
 -- what was read, with one line more
 unfoldable pub withConstants : Problem → ℕ → Problem
@@ -140,37 +202,24 @@ withClause p c = record { constants = p .constants; arities = p .arities; rules 
 -- 8 to 13, of a line of each kind
 unfoldable pub constantsLine : Problem → List Number → Asked Problem
 constantsLine p ns = do
-  n ← count 8 1 32 ns
-  ask 11 (isEmpty (n .left))
-  yes (withConstants p (n .found))
+  n ← constantsAsked ns
+  yes (withConstants p n)
 
 unfoldable pub symbolLine : Problem → List Number → Asked Problem
 symbolLine p ns = do
-  arity ← count 8 0 3 ns
-  ask 9 (ltb (length (p .arities)) 16)
-  ask 11 (isEmpty (arity .left))
-  yes (withSymbol p (arity .found))
+  arity ← arityAsked (length (p .arities)) ns
+  yes (withSymbol p arity)
 
 unfoldable pub ruleLine : Problem → List Number → Asked Problem
 ruleLine p ns = do
-  headCount ← count 8 1 3 ns
-  bodyCount ← count 8 0 2 (headCount .left)
-  ask 9 (ltb (length (p .rules)) 32)
-  heads ← patterns p (headCount .found) (bodyCount .left)
-  body ← patterns p (bodyCount .found) (heads .left)
-  ask 11 (isEmpty (body .left))
-  let r : Rule = record { heads = heads .found; body = body .found }
-  ask 12 (restricted r)
+  r ← ruleAsked (p .constants) (p .arities) (length (p .rules)) ns
   yes (withRule p r)
 
 unfoldable pub clauseLine : Problem → List Number → Asked Problem
 clauseLine p ns = do
-  literalCount ← count 8 0 8 ns
-  ask 9 (ltb (length (p .clauses)) 64)
-  c ← clauseLiterals p (literalCount .found) (literalCount .left)
-  ask 11 (isEmpty (c .left))
-  let q : Problem = withClause p (c .found)
-  ask 13 (leb (length (goalAtoms (q .clauses))) 64)
+  c ← clauseAsked (p .constants) (p .arities) (length (p .clauses)) ns
+  let q : Problem = withClause p c
+  ask 13 (leb (length (goalAtoms (q .clauses))) mostGoals)
   yes q
 
 unfoldable pub lineOfKind : ℕ → Problem → List Number → Asked Problem
@@ -185,7 +234,14 @@ lineOfKind k p ns =
 
 -- 5: the length without LF is 4 to 136 and a multiple of 4
 unfoldable pub goodLength : ℕ → Bool
-goodLength n = leb 4 n && leb n 136 && eqb (n % 4) 0
+goodLength n = leb 4 n && leb n lineBytes && eqb (n % 4) 0
+
+-- 4 to 6: the columns of a line
+unfoldable pub columnsAsked : Line → Asked (List Number)
+columnsAsked l = do
+  ask 4 (l .ended)
+  ask 5 (goodLength (length (l .bytes)))
+  columns (l .bytes)
 
 -- what was read so far, with the kind of the line before
 pub record Draft : Type 0 where
@@ -195,9 +251,7 @@ pub record Draft : Type 0 where
 -- 4 to 13, of one line
 unfoldable pub readLine : Draft → Line → Asked Draft
 readLine d l = do
-  ask 4 (l .ended)
-  ask 5 (goodLength (length (l .bytes)))
-  ns ← columns (l .bytes)
+  ns ← columnsAsked l
   k ← kindOf (d .before) ns
   p ← lineOfKind (k .found) (d .problem) (k .left)
   yes (record { before = k .found; problem = p })
@@ -217,12 +271,12 @@ emptyDraft = record { before = 0; problem = record { constants = 0; arities = []
 -- 2: at most 16,384 bytes; 3: at least one; then each line from the top
 unfoldable pub read : List ℕ → Reading
 read sheet =
-    elim (leb (length sheet) 16384) [
+    elim (leb (length sheet) sheetBytes) [
       | false ↦ refused 2 0
       | true ↦ elim (isEmpty sheet) [ true ↦ refused 3 0 | false ↦ readLines emptyDraft 1 (lines sheet) ]
     ]
 
 -- names every definition of this module, for a theorem that computes with all of them
 unfoldable pub Questions·all : Unit {0}
-unfolding _>>=_ _>>_ ask asNumber columns within count kindOf ruleArgument clauseArgument arguments literal literals patternOf literalOf patterns clauseLiterals inHead restricted withConstants withSymbol withRule withClause constantsLine symbolLine ruleLine clauseLine lineOfKind goodLength readLine readLines emptyDraft read
+unfolding _>>=_ _>>_ ask asNumber columns within count kindOf ruleArgument clauseArgument arguments literal literals patternOf literalOf patterns clauseLiterals inHead restricted constantsAsked arityAsked ruleCounts ruleBehind ruleAsked clauseCount clauseBehind clauseAsked withConstants withSymbol withRule withClause constantsLine symbolLine ruleLine clauseLine lineOfKind goodLength columnsAsked readLine readLines emptyDraft read
 Questions·all = tt

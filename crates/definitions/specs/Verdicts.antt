@@ -6,6 +6,7 @@ use mathlib.Core.Bool.{true, false}
 use mathlib.Core.Option.{none, some}
 use lib.ListN.{length}
 use Rattle.definitions.specs.Lists.{_∈_}
+use Rattle.definitions.specs.Bounds.{mostLogged}
 use Rattle.definitions.specs.Words.{Atom, Literal, plain, goalAtoms}
 use Rattle.definitions.specs.Instances.{Instance, Task}
 use Rattle.definitions.specs.Meaning.{Choice, Closure, Fails, Earlier}
@@ -34,7 +35,7 @@ pub record SpentWhen (k : Task) (budget : ℕ) (s : State) : Type 0 where
 
 -- what there is no room for: "the 513th clause or 257th atom"
 pub data NoRoom (s : State) (g : Logged) : Type 0 where
-  clause513 : length (s .log) ≡ 512 → NoRoom s g
+  clause513 : length (s .log) ≡ mostLogged → NoRoom s g
   atom257 : length (enterTaken (s .table) (g .taken)) ≡ 257 → NoRoom s g
 
 -- FULL, "if the 513th clause or 257th atom is needed": nothing is left for A, and B needs one of the two

@@ -9,16 +9,18 @@ use borrow.Author.Tests.{lt-ltb, le-leb, lt-leb}
 use Rattle.definitions.specs.Lists.{isEmpty}
 use Rattle.definitions.specs.Words.{Clause, Pattern}
 use Rattle.definitions.specs.Instances.{ground}
-use Rattle.definitions.specs.Questions.{Asked, no, yes, _>>=_, _>>_, ask, Walk, within, clauseArgument, literals, patternOf, literalOf}
+use Rattle.definitions.specs.Sheet.{Number}
+use Rattle.definitions.specs.Questions.{Asked, no, yes, _>>=_, _>>_, ask, Walk, within, literals, patternOf, clauseCount, clauseBehind, clauseAsked}
 use Rattle.theory.specs.ListLaws.{Each}
+use Rattle.theory.specs.AskedLaws.{by-asked}
+use Rattle.theory.specs.Limits.{within-between}
 use Rattle.encoding.specs.Signs.{numberOf}
 use Rattle.sheet.specs.Rows.{numbers}
-use Rattle.sheet.specs.RowLaws.{within-high}
 use Rattle.sheet.specs.SlotReads.{argument, SlotsRead}
 use Rattle.encoding.specs.Slots.{slotWords}
 use Rattle.sheet.specs.SlotLaws.{literals-length, clause-literals, PatternRead, patterns-read}
 use Rattle.sheet.specs.Entering.{ClauseSlots, Entered, entered, enterSlots}
-use Rattle.sheet.specs.LineReads.{clauseAsked, moreClauses, clauseEntered, clauseAnswer, ClauseRead}
+use Rattle.sheet.specs.LineReads.{moreClauses, clauseEntered, clauseAnswer, ClauseRead}
 use Rattle.encoding.specs.declared.Sizes.{Sizes}
 use Rattle.sheet.specs.declared.LineRead.{LineRead}
 use Rattle.sheet.specs.declared.LineRead.the-variants.{No, Yes}
@@ -37,60 +39,59 @@ clauseAt n row constants arities clauses = clauseAsked constants arities clauses
 
 module _ (n : ℕ) (row : List ℕ) (constants : ℕ) (arities : List ℕ) (clauses : ℕ) where
   pub literals-missing : n < 2 → clauseAt n row constants arities clauses ≡ no 8
-  unfolding clauseAsked _>>=_
+  unfolding clauseAsked clauseCount _>>=_
   literals-missing h = rw (count-missing n row 1 8 0 8 (omega arith))
 
   module _ (fits : n ≤ length row) (two : 2 ≤ n) where
     pub literals-out : within 0 8 (numberOf (getD row 1 0)) ≡ false → clauseAt n row constants arities clauses ≡ no 8
-    unfolding clauseAsked _>>=_
+    unfolding clauseAsked clauseCount _>>=_
     literals-out h = rw (count-out n row 1 8 0 8 fits (omega arith) h)
 
     module _ (read : within 0 8 (numberOf (getD row 1 0)) ≡ true) where
       pub clauses-full : clauses ≡ 64 → clauseAt n row constants arities clauses ≡ no 9
-      unfolding clauseAsked ask _>>=_ _>>_
+      unfolding clauseAsked clauseCount ask _>>=_ _>>_
       clauses-full h = rw (count-in n row 1 8 0 8 fits (omega arith) read, h)
 
       clause-counted : clauses < 64
-          → clauseAt n row constants arities clauses
-          ≡ (literals (clauseArgument constants) literalOf arities (getD row 1 0 / 2) (drop 2 (numbers n row)) >>= λ c. ask 11 (isEmpty (c .left)) >> yes (c .found))
-      unfolding clauseAsked ask _>>=_ _>>_
+          → clauseAt n row constants arities clauses ≡ clauseBehind constants arities (record { found = getD row 1 0 / 2; left = drop 2 (numbers n row) })
+      unfolding clauseAsked clauseCount ask _>>=_ _>>_
       clause-counted h = rw (count-in n row 1 8 0 8 fits (omega arith) read, lt-ltb clauses 64 h)
 
 -- the count is read, and there is room for a clause
-pub record ClauseCount (n : ℕ) (row : List ℕ) (s : Sizes) (first : ℕ) : Type 0 where
+pub record ClauseCounted (n : ℕ) (row : List ℕ) (s : Sizes) (first : ℕ) : Type 0 where
   pub fits : n ≤ length row
   pub two : 2 ≤ n
   pub read : within 0 8 (numberOf (getD row 1 0)) ≡ true
   pub room : s .clauses < 64
   pub word : first ≡ getD row 1 0
 
-pub clause-few : {n : ℕ} {row : List ℕ} {s : Sizes} {first : ℕ} → ClauseCount n row s first → first / 2 ≤ 8
+pub clause-few : {n : ℕ} {row : List ℕ} {s : Sizes} {first : ℕ} → ClauseCounted n row s first → first / 2 ≤ 8
 unfolding numberOf
-clause-few k = rw (k .word) (omega (arith, within-high 0 8 _ (k .read)))
+clause-few k = rw (k .word) (omega (arith, within-between 0 8 _ (k .read)))
 
 -- ── the literals ──
 
 -- question 11 and the clause, of the literals as slots have them
-unfoldable clauseBehind : Asked (Walk (List Pattern)) → Asked Clause
-clauseBehind (no q) = no q
-clauseBehind (yes w) = ask 11 (isEmpty (w .left)) >> yes (map (ground []) (w .found))
+unfoldable clauseFrom : Asked (Walk (List Pattern)) → Asked Clause
+clauseFrom (no q) = no q
+clauseFrom (yes w) = ask 11 (isEmpty (w .left)) >> yes (map (ground []) (w .found))
 
-grounded : (m : Asked (Walk (List Pattern)))
-    → (_>>=_ {B = Walk Clause} m (λ w. yes (record { found = map (ground []) (w .found); left = w .left })) >>= λ c. ask 11 (isEmpty (c .left)) >> yes (c .found)) ≡ clauseBehind m
-unfolding clauseBehind _>>=_
-grounded (no q) = refl
-grounded (yes w) = refl
+grounded : (constants : ℕ) (arities : List ℕ) (k : ℕ) (ns : List Number)
+    → clauseBehind constants arities (record { found = k; left = ns }) ≡ clauseFrom (literals (argument false constants) patternOf arities k ns)
+unfolding clauseBehind clauseFrom _>>=_
+grounded constants arities k ns =
+    rw (clause-literals constants arities k ns)
+    (by-asked (literals (argument false constants) patternOf arities k ns) (λ q e. cc) (λ w e. cc))
 
-module _ (n : ℕ) (row : List ℕ) (s : Sizes) (arities : List ℕ) (first next : ℕ) (before after : List ℕ) (k : ClauseCount n row s first)
+module _ (n : ℕ) (row : List ℕ) (s : Sizes) (arities : List ℕ) (first next : ℕ) (before after : List ℕ) (k : ClauseCounted n row s first)
     (r : SlotsRead (literals (argument false (s .constants)) patternOf arities (first / 2) (drop 2 (numbers n row))) n next before after) where
-  behind-count : clauseAt n row (s .constants) arities (s .clauses) ≡ clauseBehind (literals (argument false (s .constants)) patternOf arities (first / 2) (drop 2 (numbers n row)))
+  behind-count : clauseAt n row (s .constants) arities (s .clauses) ≡ clauseFrom (literals (argument false (s .constants)) patternOf arities (first / 2) (drop 2 (numbers n row)))
   behind-count =
       clause-counted n row (s .constants) arities (s .clauses) (k .fits) (k .two) (k .read) (k .room)
-      ∙ rw (← k .word, clause-literals (s .constants) arities (first / 2) (drop 2 (numbers n row)))
-      (grounded (literals (argument false (s .constants)) patternOf arities (first / 2) (drop 2 (numbers n row))))
+      ∙ rw (← k .word) (grounded (s .constants) arities (first / 2) (drop 2 (numbers n row)))
 
   pub clause-unread : next ≡ 0 → clauseAt n row (s .constants) arities (s .clauses) ≡ no 10
-  unfolding clauseBehind
+  unfolding clauseFrom
   clause-unread h =
       rw (behind-count, slots-refused false _ _ n row 2 _ next before after (k .fits) (omega arith) (k .two) r h)
 
@@ -99,14 +100,14 @@ module _ (n : ℕ) (row : List ℕ) (s : Sizes) (arities : List ℕ) (first next
     walked = slots-walked false _ _ n row 2 _ next before after (k .fits) (omega arith) (k .two) r read
 
     pub clause-over : next < n → clauseAt n row (s .constants) arities (s .clauses) ≡ no 11
-    unfolding ask _>>_ clauseBehind
+    unfolding ask _>>_ clauseFrom
     clause-over h = rw (behind-count, walked .read, left-over (walked .walk .left) (walked .columns) h)
 
     clause : Clause
     clause = map (ground []) (walked .walk .found)
 
     clause-found : n ≤ next → clauseAt n row (s .constants) arities (s .clauses) ≡ yes clause
-    unfolding ask _>>_ clauseBehind clause
+    unfolding ask _>>_ clauseFrom clause
     clause-found h = rw (behind-count, walked .read, none-left (walked .walk .left) (walked .columns) h)
 
     found-count : length (walked .walk .found) ≡ first / 2

@@ -1,7 +1,7 @@
 -- The slots that a clause is read into: their words keep the limits, and the clause enters by them.
-use Prim.Native.Nat.{ℕ, zero, suc, _+_, _*_, _/_, _<_, _≤_}
+use Prim.Native.Nat.{ℕ, zero, suc, _+_, _*_, _<_, _≤_}
 use mathlib.Core.Path.{_≡_, refl, sym, _∙_, ap}
-use mathlib.Core.Bool.{Bool, true, false, not}
+use mathlib.Core.Bool.{false, not}
 use mathlib.Core.List.{List, [], _∷_, _++_, map, List·Memᴰ·head, List·Memᴰ·tail}
 use native.Mathlib.Omega.{arith}
 use lib.ListN.{length, getD, take, replicate, List·getD-append}
@@ -10,19 +10,13 @@ use Rattle.definitions.specs.Lists.{joined}
 use Rattle.definitions.specs.Words.{Term, constant, Pattern}
 use Rattle.definitions.specs.Instances.{termValue, ground}
 use Rattle.theory.specs.ListLaws.{Each}
-use Rattle.encoding.specs.Signs.{wordOf}
-use Rattle.encoding.specs.Slots.{termWord, termWords, patternWords, slotWords}
+use Rattle.encoding.specs.Slots.{asPattern, termWord, termWords, patternWords, slotWords}
 use Rattle.sheet.specs.SlotLaws.{TermInRange, constant-only, PatternRead}
-use Rattle.encoding.specs.SlotLaws.{termWords-length}
+use Rattle.encoding.specs.SlotLaws.{termWords-length, pattern-length}
+use Rattle.sheet.specs.ClauseSlotLaws.{word-size}
 use Rattle.sheet.specs.Entering.{ClauseSlot, ClauseSlots, slotCode, Entered, enterSlots}
-use Rattle.encoding.specs.Slots.{asPattern}
 
 -- ── the limits ──
-
-word-size : (negative : Bool) (n : ℕ) → wordOf negative n / 2 ≡ n
-unfolding wordOf
-word-size true n = omega arith
-word-size false n = omega arith
 
 module _ (constants : ℕ) (few : constants ≤ 32) where
   term-small : (t : Term) → TermInRange false constants t → termWord t ≤ 38
@@ -57,10 +51,6 @@ module _ (constants : ℕ) (few : constants ≤ 32) where
           second = terms-small (x .terms) rest 1 (omega arith) (r .inRange);
           third = terms-small (x .terms) rest 2 (omega arith) (r .inRange);
         }
-
-pattern-length : (x : Pattern) → length (patternWords x) ≡ 4
-unfolding patternWords
-pattern-length x = omega (arith, termWords-length (x .terms))
 
 -- a slot behind another one
 slot-behind : (front rest : List ℕ) (base : ℕ) → ClauseSlot rest base → ClauseSlot (front ++ rest) (length front + base)

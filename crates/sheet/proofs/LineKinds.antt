@@ -6,9 +6,9 @@ use lib.ListN.{take}
 use borrow.Author.Tests.{ne-eqb}
 use Rattle.definitions.specs.Words.{Clause, Rule}
 use Rattle.definitions.specs.Sheet.{Number}
-use Rattle.definitions.specs.Questions.{Asked, no, yes}
+use Rattle.definitions.specs.Questions.{Asked, no, yes, constantsAsked, arityAsked, ruleAsked, clauseAsked}
 use Rattle.encoding.specs.Encoding.{arrays}
-use Rattle.sheet.specs.LineReads.{constantsAsked, arityAsked, ruleAsked, clauseAsked, ConstantsRead, SymbolRead, RuleRead, ClauseRead, withArities, withRules, withEntered, ConstantsHeld, SymbolHeld, RuleHeld, ClauseEntersHeld, LineHeld}
+use Rattle.sheet.specs.LineReads.{ConstantsRead, SymbolRead, RuleRead, ClauseRead, withArities, withRules, withEntered, ConstantsHeld, SymbolHeld, RuleHeld, ClauseEntersHeld, LineHeld}
 use Rattle.encoding.specs.declared.Sizes.{Sizes}
 use Rattle.sheet.specs.declared.LineRead.{LineRead}
 

@@ -9,10 +9,10 @@ use lib.ListN.{length, take, drop, length-drop}
 use lib.Seq.{length-take-le}
 use borrow.Author.Tests.{lt-ltb, le-ltb, le-leb, lt-leb, eq-eqb, ne-eqb}
 use Rattle.definitions.specs.Sheet.{Line, Number}
-use Rattle.definitions.specs.Questions.{_>>_, ask, columns, goodLength}
+use Rattle.definitions.specs.Questions.{_>>_, ask, columns, goodLength, columnsAsked}
 use Rattle.theory.specs.Tests.{by-test}
 use Rattle.sheet.specs.Rows.{rowAsked}
-use Rattle.sheet.specs.LineReads.{columnsAsked, columnsRead}
+use Rattle.sheet.specs.LineReads.{columnsRead}
 
 abbrev line : List ℕ → ℕ → ℕ → Line
 line s from end = record { bytes = take (end - from) (drop from s); ended = ltb end (length s) }

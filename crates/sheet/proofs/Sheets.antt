@@ -14,7 +14,7 @@ use borrow.Author.Tests.{ltb-true, ltb-false, leb-true, le-leb, lt-leb}
 use Rattle.definitions.specs.Lists.{isEmpty, joined, distinct}
 use Rattle.definitions.specs.Words.{Clause, Problem, goalAtoms}
 use Rattle.definitions.specs.Sheet.{Line, lines, Number, decimal}
-use Rattle.definitions.specs.Questions.{Asked, no, yes, asNumber, columns, goodLength, Draft, readLine, refused, accepted, readLines, emptyDraft, read}
+use Rattle.definitions.specs.Questions.{Asked, no, yes, asNumber, columns, goodLength, columnsAsked, Draft, readLine, refused, accepted, readLines, emptyDraft, read}
 use Rattle.theory.specs.Tests.{by-test, apart, and-left, and-right}
 use Rattle.theory.specs.AskedLaws.{bind-yes, ask-yes}
 use Rattle.theory.specs.Limits.{line-begun}
@@ -22,7 +22,7 @@ use Rattle.encoding.specs.Signs.{numberOf}
 use Rattle.sheet.specs.Rows.{numbers, lineLength, kindHere}
 use Rattle.sheet.specs.RowLaws.{lineLength-le, lines-none, lines-ended, lines-unended}
 use Rattle.encoding.specs.Encoding.{startsFrom, indexFrom, emptyIndex, sizesOf, Arrays, arrays, hold}
-use Rattle.sheet.specs.LineReads.{Ready, LineHeld, columnsAsked, columnsRead, SheetRead}
+use Rattle.sheet.specs.LineReads.{Ready, LineHeld, columnsRead, SheetRead}
 use Rattle.sheet.specs.SheetLaws.{Started, draft-ready, columns-refused, kind-refused, LineEnds, line-ends}
 use Rattle.encoding.specs.declared.Sizes.{Sizes}
 use Rattle.sheet.specs.declared.Read.the-variants.{Accepted}

@@ -4,12 +4,13 @@ use mathlib.Core.Path.{_≡_, refl, sym, _∙_, ap}
 use mathlib.Core.Bool.{Bool, true, false, not}
 use mathlib.Core.List.{List, [], _∷_, _++_, map, List·Memᴰ·head, List·Memᴰ·tail, append-assoc}
 use native.Mathlib.Omega.{arith}
-use lib.ListN.{length, getD, replicate, length-append}
-use lib.Seq.{length-take-le, getD-append-seam, getD-append-add}
+use lib.ListN.{length, getD, length-append}
+use lib.Seq.{getD-append-seam, getD-append-add}
 use Rattle.definitions.specs.Lists.{_∈_, joined}
-use Rattle.definitions.specs.Words.{Literal, Clause, constant, Pattern}
+use Rattle.definitions.specs.Words.{Literal, Clause, constant}
 use Rattle.encoding.specs.Signs.{wordOf}
 use Rattle.encoding.specs.Slots.{asPattern, termWord, termWords, patternWords, slotWords}
+use Rattle.encoding.specs.SlotLaws.{pattern-length}
 use Rattle.sheet.specs.Entering.{ClauseSlot, slotCode}
 use Rattle.encoding.specs.Encoding.{place, atomCode}
 use Rattle.encoding.specs.CodeLaws.{CodeLimits, AtomLimits, arity-at-most}
@@ -111,12 +112,6 @@ module _
       }
 
 -- ── the slots of a clause ──
-
-pub pattern-length : (x : Pattern) → length (patternWords x) ≡ 4
-unfolding patternWords termWords
-pattern-length x =
-    let ts = map termWord (x .terms) in
-    omega (arith, length-take-le 3 (ts ++ replicate 3 0) (omega (arith, length-append ts (replicate 3 0))))
 
 -- from the slot of this number on, the slots are a clause's
 pub record SlotsFrom (slots : List ℕ) (i : ℕ) (c : Clause) : Type 0 where

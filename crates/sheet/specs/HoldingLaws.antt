@@ -1,20 +1,20 @@
 -- The arrays hold a problem, and with one line more they hold the larger problem: a symbol, a rule, or a clause that enters from
 -- its slots. Assumes nothing.
 use Prim.Native.Nat.{ℕ, suc, _+_, _-_, _*_, _≤_}
-use mathlib.Core.Path.{_≡_, refl, sym, _∙_, ap, subst}
+use mathlib.Core.Path.{_≡_, refl, sym, _∙_, ap}
 use mathlib.Core.Bool.{not}
 use mathlib.Core.List.{List, [], _∷_, _++_, map, List·Memᴰ·head, List·Memᴰ·tail, append-nil, append-assoc, map-append}
 use native.Mathlib.Omega.{arith}
-use lib.ListN.{length, getD, set, replicate, length-append, length-map}
-use lib.Seq.{sets, length-take-le}
+use lib.ListN.{length, getD, set, length-append, length-map}
+use lib.Seq.{sets}
 use Rattle.definitions.specs.Lists.{_∈_, joined}
 use Rattle.definitions.specs.Words.{Atom, Literal, Clause, Rule, Problem, goalAtoms}
 use Rattle.definitions.specs.Questions.{withSymbol, withRule, withClause}
 use Rattle.definitions.specs.Search.{enter}
 use Rattle.theory.specs.ListLaws.{Different}
-use Rattle.theory.specs.WordLaws.{goal-of, goal-from}
+use Rattle.theory.specs.WordLaws.{goal-of}
 use Rattle.theory.specs.SearchLaws.{enter-new}
-use Rattle.theory.specs.Limits.{LiteralLimits, Limits, Searchable, limits-searchable}
+use Rattle.theory.specs.Limits.{LiteralLimits}
 use Rattle.column.specs.Sets.{sets-append}
 use Rattle.encoding.specs.Signs.{wordOf}
 use Rattle.encoding.specs.Slots.{asPattern, slotWords, ruleWords}

@@ -3,13 +3,12 @@ use Prim.Native.Nat.{ℕ, zero, suc, _+_, _*_, _≤_}
 use mathlib.Core.Path.{_≡_}
 use mathlib.Core.Bool.{true, false}
 use mathlib.Core.List.{List, map}
-use lib.Dec.{eqb, leb, ltb}
+use lib.Dec.{eqb, leb}
 use lib.ListN.{length, getD, set, take}
 use lib.Seq.{sets}
-use Rattle.definitions.specs.Lists.{isEmpty}
 use Rattle.definitions.specs.Words.{Clause, Rule}
-use Rattle.definitions.specs.Sheet.{Line, Number}
-use Rattle.definitions.specs.Questions.{Asked, no, yes, _>>=_, _>>_, ask, count, ruleArgument, clauseArgument, literals, patternOf, literalOf, restricted, columns, goodLength, Reading, refused, accepted}
+use Rattle.definitions.specs.Sheet.{Number}
+use Rattle.definitions.specs.Questions.{Asked, no, yes, constantsAsked, arityAsked, ruleAsked, clauseAsked, Reading, refused, accepted}
 use Rattle.encoding.specs.Slots.{asPattern, slotWords, ruleWords}
 use Rattle.sheet.specs.Entering.{Entered, entered, enterSlots}
 use Rattle.encoding.specs.Encoding.{Arrays, arrays, hold, sizesOf}
@@ -18,42 +17,6 @@ use Rattle.sheet.specs.declared.Read.{Read}
 use Rattle.sheet.specs.declared.Read.the-variants.{Refused, Accepted}
 use Rattle.sheet.specs.declared.LineRead.{LineRead}
 use Rattle.sheet.specs.declared.LineRead.the-variants.{No, Yes}
-
--- 8 and 11 of a line of kind 1; 8, 9 and 11 of one of kind 2, where so many symbols stand already
-unfoldable pub constantsAsked : List Number → Asked ℕ
-constantsAsked ns = do
-  n ← count 8 1 32 ns
-  ask 11 (isEmpty (n .left))
-  yes (n .found)
-
-unfoldable pub arityAsked : ℕ → List Number → Asked ℕ
-arityAsked symbols ns = do
-  arity ← count 8 0 3 ns
-  ask 9 (ltb symbols 16)
-  ask 11 (isEmpty (arity .left))
-  yes (arity .found)
-
--- 8 to 12 of a line of kind 3, where so many rules stand already
-unfoldable pub ruleAsked : ℕ → List ℕ → ℕ → List Number → Asked Rule
-ruleAsked constants arities rules ns = do
-  headCount ← count 8 1 3 ns
-  bodyCount ← count 8 0 2 (headCount .left)
-  ask 9 (ltb rules 32)
-  heads ← literals (ruleArgument constants) patternOf arities (headCount .found) (bodyCount .left)
-  body ← literals (ruleArgument constants) patternOf arities (bodyCount .found) (heads .left)
-  ask 11 (isEmpty (body .left))
-  let r : Rule = record { heads = heads .found; body = body .found }
-  ask 12 (restricted r)
-  yes r
-
--- 8 to 11 of a line of kind 4, where so many clauses stand already
-unfoldable pub clauseAsked : ℕ → List ℕ → ℕ → List Number → Asked Clause
-clauseAsked constants arities clauses ns = do
-  literalCount ← count 8 0 8 ns
-  ask 9 (ltb clauses 64)
-  c ← literals (clauseArgument constants) literalOf arities (literalCount .found) (literalCount .left)
-  ask 11 (isEmpty (c .left))
-  yes (c .found)
 
 -- ── one line more ──
 
@@ -153,13 +116,7 @@ LineHeld k ns r s before after =
       ]
     ]
 
--- questions 4 to 6 of a line: 0, or the number of the one that is answered no
-unfoldable pub columnsAsked : Line → Asked (List Number)
-columnsAsked l = do
-  ask 4 (l .ended)
-  ask 5 (goodLength (length (l .bytes)))
-  columns (l .bytes)
-
+-- questions 4 to 6 of a line, by the number of the one that is answered no, or 0
 unfoldable pub columnsRead : ℕ → List Number → Asked (List Number)
 columnsRead zero ns = yes ns
 columnsRead (suc q) ns = no (suc q)

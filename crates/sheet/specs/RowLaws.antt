@@ -1,18 +1,18 @@
 -- Laws of lines and rows, for the reader of lines: a line is cut off at its LF, a word stands for its number and back,
 -- and a row of words is taken off from the front. Assumes nothing.
-use Prim.Native.Nat.{ℕ, zero, suc, _+_, _*_, _/_, _%_, _<_, _≤_}
+use Prim.Native.Nat.{ℕ, zero, suc, _+_, _<_, _≤_}
 use mathlib.Core.Path.{_≡_, refl, _∙_}
-use mathlib.Core.Bool.{Bool, true, false, not, _&&_}
+use mathlib.Core.Bool.{true, false}
 use mathlib.Core.List.{List, [], _∷_, _++_, map-append}
 use native.Mathlib.Omega.{arith}
 use lib.Dec.{eqb, leb}
 use lib.ListN.{length, getD, take, drop, set, length-take, length-map, drop-of-length-le, List·getD-map}
 use lib.Seq.{length-take-le, drop-cons, getD-take, take-suc-set}
-use borrow.Author.Tests.{eq-eqb, ne-eqb, eqb-true, eqb-false, leb-true}
 use Rattle.definitions.specs.Sheet.{putByte, lines, Number}
 use Rattle.definitions.specs.Questions.{yes, _>>=_, _>>_, ask, within, count, kindOf}
-use Rattle.theory.specs.Tests.{by-test, apart, and-left, and-right}
-use Rattle.encoding.specs.Signs.{wordOf, numberOf}
+use Rattle.theory.specs.Tests.{by-test, apart}
+use Rattle.theory.specs.Limits.{within-between}
+use Rattle.encoding.specs.Signs.{numberOf}
 use Rattle.sheet.specs.Rows.{numbers, lineLength, kindHere, kindAsked}
 
 -- ── lines ──
@@ -53,23 +53,15 @@ unfolding kindAsked
 kindAsked-positive zero ns h = apart (omega arith)
 kindAsked-positive (suc k) ns h = refl
 
-pub within-low : (low high : ℕ) (n : Number) → within low high n ≡ true → low ≤ n .size
-unfolding within
-within-low low high n h = leb-true low (n .size) (and-right (not (n .negative)) _ (and-left (not (n .negative) && leb low (n .size)) (leb (n .size) high) h))
-
-pub within-high : (low high : ℕ) (n : Number) → within low high n ≡ true → n .size ≤ high
-unfolding within
-within-high low high n h = leb-true (n .size) high (and-right (not (n .negative) && leb low (n .size)) _ h)
-
 pub kind-here : (before : ℕ) (n : Number) (ns : List Number) → kindOf before (n ∷ ns) ≡ kindAsked (kindHere before n) ns
 unfolding kindOf count kindHere kindAsked ask _>>=_ _>>_
 kind-here zero n ns =
     by-test (within 1 1 n)
-    (λ t. let e : n .size ≡ 1 = omega (arith, within-low 1 1 n t, within-high 1 1 n t) in cc)
+    (λ t. let e : n .size ≡ 1 = omega (arith, within-between 1 1 n t) in cc)
     (λ t. cc)
 kind-here (suc before) n ns =
     by-test (within 2 4 n)
-    (λ t. let e = kindAsked-positive (n .size) ns (omega (arith, within-low 2 4 n t)) in by-test (leb (suc before) (n .size)) (λ u. cc) (λ u. cc))
+    (λ t. let e = kindAsked-positive (n .size) ns (omega (arith, within-between 2 4 n t)) in by-test (leb (suc before) (n .size)) (λ u. cc) (λ u. cc))
     (λ t. cc)
 
 -- ── rows ──

@@ -3,19 +3,17 @@
 use Prim.Native.Nat.{ℕ, suc, _+_, _≤_}
 use mathlib.Core.Path.{_≡_, refl, sym, ap, subst, _∙_}
 use mathlib.Core.Logic.{_⊎_, inl, inr}
-use mathlib.Core.Bool.{Bool, true, false}
 use mathlib.Core.List.{List, [], _∷_, _++_, map, append-nil, List·Memᴰ·not-nil}
 use native.Mathlib.Omega.{arith}
-use lib.Dec.{eqb, leb, ltb}
+use lib.Dec.{eqb, leb}
 use lib.ListN.{length, set, take, length-append}
-use Rattle.definitions.specs.Lists.{_∈_, isEmpty, joined, distinct}
+use Rattle.definitions.specs.Lists.{_∈_, joined, distinct}
 use Rattle.definitions.specs.Words.{Literal, Clause, Rule, Problem, goalAtoms}
 use Rattle.definitions.specs.Sheet.{Line, Number}
-use Rattle.definitions.specs.Questions.{Asked, no, yes, _>>=_, _>>_, ask, columns, count, kindOf, literals, clauseArgument, ruleArgument, literalOf, patternOf, patterns, clauseLiterals, restricted, withConstants, withSymbol, withRule, withClause, constantsLine, symbolLine, ruleLine, clauseLine, lineOfKind, goodLength, Draft, readLine, emptyDraft}
+use Rattle.definitions.specs.Questions.{Asked, no, yes, _>>=_, _>>_, ask, constantsAsked, arityAsked, ruleAsked, clauseAsked, withConstants, withSymbol, withRule, withClause, constantsLine, symbolLine, ruleLine, clauseLine, lineOfKind, columnsAsked, Draft, readLine, emptyDraft}
 use Rattle.theory.specs.Tests.{by-test}
 use Rattle.theory.specs.ListLaws.{joined-append, joined-length}
-use Rattle.theory.specs.AskedLaws.{by-asked, bind-yes, ask-yes}
-use Rattle.theory.specs.Limits.{LiteralLimits, Limits, arity-limit, clause-literals-limits, Begun}
+use Rattle.theory.specs.Limits.{LiteralLimits, Limits, arity-limit, clause-asked-limits, Begun}
 use Rattle.column.specs.Sets.{front}
 use Rattle.sheet.specs.Rows.{kindHere, kindAsked}
 use Rattle.sheet.specs.RowLaws.{kind-here}
@@ -24,64 +22,10 @@ use Rattle.sheet.specs.Entering.{Entered}
 use Rattle.encoding.specs.Encoding.{Arrays, emptyIndex, sizesOf, hold}
 use Rattle.sheet.specs.HoldingLaws.{enteredOf, hold-index-within, clause-held, hold-symbol, hold-rule, hold-clause}
 use Rattle.encoding.specs.HoldLaws.{Encodable, limits-encodable}
-use Rattle.sheet.specs.LineReads.{constantsAsked, arityAsked, ruleAsked, clauseAsked, moreConstants, moreSymbols, moreRules, moreClauses, clauseEntered, clauseAnswer, Ready, withArities, withRules, withEntered, ConstantsHeld, SymbolHeld, RuleHeld, ClauseEntersHeld, LineHeld, columnsAsked}
+use Rattle.sheet.specs.LineReads.{moreConstants, moreSymbols, moreRules, moreClauses, clauseEntered, clauseAnswer, Ready, withArities, withRules, withEntered, ConstantsHeld, SymbolHeld, RuleHeld, ClauseEntersHeld, LineHeld}
 use Rattle.encoding.specs.declared.Sizes.{Sizes}
 use Rattle.sheet.specs.declared.LineRead.{LineRead}
 use Rattle.sheet.specs.declared.LineRead.the-variants.{No, Yes}
-
--- ── the questions of a line, with the problem left out ──
-
-constants-asked : (p : Problem) (ns : List Number) → constantsLine p ns ≡ (constantsAsked ns >>= λ n. yes (withConstants p n))
-unfolding constantsLine constantsAsked _>>=_ _>>_ ask
-constants-asked p ns = by-asked (count 8 1 32 ns) (λ q e. cc) (λ w e. by-test (isEmpty (w .left)) (λ t. cc) (λ t. cc))
-
-arity-asked : (p : Problem) (ns : List Number) → symbolLine p ns ≡ (arityAsked (length (p .arities)) ns >>= λ n. yes (withSymbol p n))
-unfolding symbolLine arityAsked _>>=_ _>>_ ask
-arity-asked p ns =
-    by-asked (count 8 0 3 ns)
-    (λ q e. cc)
-    (λ w e. by-test (ltb (length (p .arities)) 16) (λ t. by-test (isEmpty (w .left)) (λ u. cc) (λ u. cc)) (λ t. cc))
-
-rule-asked : (p : Problem) (ns : List Number) → ruleLine p ns ≡ (ruleAsked (p .constants) (p .arities) (length (p .rules)) ns >>= λ r. yes (withRule p r))
-unfolding ruleLine ruleAsked patterns _>>=_ _>>_ ask
-rule-asked p ns =
-    by-asked (count 8 1 3 ns)
-    (λ q e. cc)
-    (λ h e. by-asked (count 8 0 2 (h .left))
-    (λ q f. cc)
-    (λ b f. by-test (ltb (length (p .rules)) 32)
-    (λ t. by-asked (literals (ruleArgument (p .constants)) patternOf (p .arities) (h .found) (b .left))
-    (λ q g. cc)
-    (λ heads g. by-asked (literals (ruleArgument (p .constants)) patternOf (p .arities) (b .found) (heads .left))
-    (λ q i. cc)
-    (λ body i. by-test (isEmpty (body .left))
-    (λ u. by-test (restricted (record { heads = heads .found; body = body .found })) (λ v. cc) (λ v. cc))
-    (λ u. cc))))
-    (λ t. cc)))
-
-clause-asked : (p : Problem) (ns : List Number)
-    → clauseLine p ns ≡ (clauseAsked (p .constants) (p .arities) (length (p .clauses)) ns
-    >>= λ c. ask 13 (leb (length (goalAtoms (withClause p c .clauses))) 64) >> yes (withClause p c))
-unfolding clauseLine clauseAsked clauseLiterals _>>=_ _>>_ ask
-clause-asked p ns =
-    by-asked (count 8 0 8 ns)
-    (λ q e. cc)
-    (λ n e. by-test (ltb (length (p .clauses)) 64)
-    (λ t. by-asked (literals (clauseArgument (p .constants)) literalOf (p .arities) (n .found) (n .left))
-    (λ q f. cc)
-    (λ c f. by-test (isEmpty (c .left)) (λ u. cc) (λ u. cc)))
-    (λ t. cc))
-
-clause-limits : (p : Problem) (ns : List Number) (c : Clause) → clauseAsked (p .constants) (p .arities) (length (p .clauses)) ns ≡ yes c
-    → (l : Literal) → l ∈ c → LiteralLimits p l
-unfolding clauseAsked clauseLiterals
-clause-limits p ns c e =
-    let (n, h₁, e₁) = bind-yes (count 8 0 8 ns) _ c e in
-    let (_, e₂) = ask-yes 9 (ltb (length (p .clauses)) 64) _ c e₁ in
-    let (w, h₃, e₃) = bind-yes (literals (clauseArgument (p .constants)) literalOf (p .arities) (n .found) (n .left)) _ c e₂ in
-    let (_, e₄) = ask-yes 11 (isEmpty (w .left)) _ c e₃ in
-    let q : w .found ≡ c = cc in
-    subst (λ ls. (l : Literal) → l ∈ ls → LiteralLimits p l) q (clause-literals-limits p (n .found) (n .left) w h₃)
 
 literals-more : (p : Problem) (c : Clause) → length (joined (λ (x : Clause). x) (withClause p c .clauses)) ≡ length (joined (λ (x : Clause). x) (p .clauses)) + length c
 unfolding withClause joined
@@ -210,53 +154,43 @@ module _ (before : Arrays) (empty : before .index ≡ emptyIndex) (wide : length
 
   kind-next : (d : Draft) → Started d → (k : ℕ) (ns : List Number) (r : LineRead) (after : Arrays)
       → LineHeld k ns r (sizesOf (d .problem)) (hold (d .problem) before) after → LineNext (lineOfKind k (d .problem) ns) r after
-  unfolding lineOfKind sizesOf
-  kind-next d i k ns r after h = by-kind (eqb k 1) (eqb k 2) (eqb k 3) h
+  unfolding lineOfKind constantsLine symbolLine ruleLine clauseLine sizesOf
+  kind-next d i k ns r after h =
+      by-test (eqb k 1)
+      (λ one. rw (one, lineOfKind) (constants-next p (constantsAsked ns) r after (rw (one, LineHeld) at h)))
+      (λ one. by-test (eqb k 2)
+      (λ two. rw (one, two, lineOfKind) (symbol-next p (arityAsked (length (p .arities)) ns) r after (rw (one, two, LineHeld) at h)))
+      (λ two. by-test (eqb k 3)
+      (λ three.
+      rw (one, two, three, lineOfKind)
+      (rule-next p (ruleAsked (p .constants) (p .arities) (length (p .rules)) ns) r after (rw (one, two, three, held, LineHeld) at h)))
+      (λ three.
+      rw (one, two, three, lineOfKind)
+      (clause-next p (started-encodable d i) (clauseAsked (p .constants) (p .arities) (length (p .clauses)) ns)
+      (λ c e. clause-asked-limits p ns c e .eachLiteral)
+      r after (rw (one, two, three, held, LineHeld) at h)))))
     where
       p : Problem
       p = d .problem
 
-      by-kind : (one two three : Bool)
-          → elim one as (λ (b : Bool). Type 0) [ true ↦ ConstantsHeld (constantsAsked ns) r (sizesOf p) (hold p before) after | false ↦ elim two as (λ (b : Bool). Type 0) [ true ↦ SymbolHeld (arityAsked (sizesOf p .symbols) ns) r (sizesOf p) (hold p before) after | false ↦ elim three as (λ (b : Bool). Type 0) [ true ↦ RuleHeld (ruleAsked (sizesOf p .constants) (take (sizesOf p .symbols) (hold p before .arities)) (sizesOf p .rules) ns) r (sizesOf p) (hold p before) after | false ↦ ClauseEntersHeld (clauseAsked (sizesOf p .constants) (take (sizesOf p .symbols) (hold p before .arities)) (sizesOf p .clauses) ns) r (sizesOf p) (hold p before) after ] ] ]
-          → LineNext (elim one [ true ↦ constantsLine p ns | false ↦ elim two [ true ↦ symbolLine p ns | false ↦ elim three [ true ↦ ruleLine p ns | false ↦ clauseLine p ns ] ] ]) r after
-      by-kind true two three g = rw (constants-asked p ns) (constants-next p (constantsAsked ns) r after g)
-      by-kind false true three g = rw (arity-asked p ns) (symbol-next p (arityAsked (length (p .arities)) ns) r after g)
-      by-kind false false true g = rw (rule-asked p ns) (rule-next p (ruleAsked (p .constants) (p .arities) (length (p .rules)) ns) r after (rw (held-arities p (started-symbols d i)) at g))
-      by-kind false false false g =
-          rw (clause-asked p ns)
-          (clause-next p (started-encodable d i) (clauseAsked (p .constants) (p .arities) (length (p .clauses)) ns) (clause-limits p ns) r after (rw (held-arities p (started-symbols d i)) at g))
+      held : take (length (p .arities)) (hold p before .arities) ≡ p .arities
+      held = held-arities p (started-symbols d i)
 
 -- ── the questions of a line, from the columns on ──
 
--- the line behind its columns
-unfoldable pub afterColumns : Draft → List Number → Asked Draft
-afterColumns d ns = do
-  k ← kindOf (d .before) ns
-  p ← lineOfKind (k .found) (d .problem) (k .left)
-  yes (record { before = k .found; problem = p })
-
-line-columns : (d : Draft) (l : Line) → readLine d l ≡ (columnsAsked l >>= afterColumns d)
-unfolding readLine columnsAsked afterColumns _>>=_ _>>_ ask
-line-columns d l =
-    by-test (l .ended)
-    (λ t. by-test (goodLength (length (l .bytes)))
-    (λ u. by-asked (columns (l .bytes)) (λ q e. cc) (λ ns e. cc))
-    (λ u. cc))
-    (λ t. cc)
-
 -- 4 to 6 are answered no, or 7
 pub columns-refused : (d : Draft) (l : Line) (q : ℕ) → columnsAsked l ≡ no q → readLine d l ≡ no q
-unfolding _>>=_
-columns-refused d l q e = line-columns d l ∙ cc
+unfolding _>>=_ readLine
+columns-refused d l q e = cc
 
 pub kind-refused : (d : Draft) (l : Line) (n : Number) (ns : List Number) → columnsAsked l ≡ yes (n ∷ ns) → kindHere (d .before) n ≡ 0 → readLine d l ≡ no 7
-unfolding _>>=_ afterColumns kindAsked
-kind-refused d l n ns e k = line-columns d l ∙ cc (kind-here (d .before) n ns)
+unfolding _>>=_ readLine kindAsked
+kind-refused d l n ns e k = cc (kind-here (d .before) n ns)
 
 kind-found : (d : Draft) (l : Line) (n : Number) (ns : List Number) (k : ℕ) → columnsAsked l ≡ yes (n ∷ ns) → kindHere (d .before) n ≡ suc k
     → readLine d l ≡ (lineOfKind (suc k) (d .problem) ns >>= λ p. yes (record { before = suc k; problem = p }))
-unfolding _>>=_ afterColumns kindAsked
-kind-found d l n ns k e f = line-columns d l ∙ cc (kind-here (d .before) n ns)
+unfolding _>>=_ readLine kindAsked
+kind-found d l n ns k e f = cc (kind-here (d .before) n ns)
 
 module _ (before : Arrays) (empty : before .index ≡ emptyIndex) (wide : length (before .arities) ≡ 16) where
   -- what a line comes to, what the reader answers, and what the arrays hold then

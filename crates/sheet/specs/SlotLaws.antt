@@ -1,23 +1,24 @@
 -- Laws of the literals of a line: how a walk over them splits, what it finds and leaves, and what their slots say. Assumes nothing.
-use Prim.Native.Nat.{ℕ, zero, suc, _+_, _-_, _*_, _≤_}
+use Prim.Native.Nat.{ℕ, zero, suc, _+_, _-_, _≤_}
 use mathlib.Core.Path.{_≡_, refl, sym, ap, subst, _∙_}
-use mathlib.Core.Bool.{Bool, true, false, not, _&&_, _||_}
-use mathlib.Core.List.{List, [], _∷_, _++_, map, append-assoc, append-nil, List·Memᴰ·head, List·Memᴰ·tail}
+use mathlib.Core.Bool.{Bool, true, false, not, _&&_}
+use mathlib.Core.List.{List, [], _∷_, _++_, map, append-assoc, List·Memᴰ·tail}
 use native.Mathlib.Omega.{arith}
-use lib.Dec.{eqb, leb}
-use lib.ListN.{length, getD, drop, length-append, length-drop}
+use lib.Dec.{leb}
+use lib.ListN.{length, getD, drop, length-drop}
 use lib.Seq.{drop-drop}
-use borrow.Author.Tests.{leb-true, eqb-true, eqb-false, eq-eqb, ne-eqb, lt-ltb, le-ltb}
-use Rattle.definitions.specs.Lists.{_∈_, any, all, joined}
+use borrow.Author.Tests.{ne-eqb, lt-ltb, le-ltb}
+use Rattle.definitions.specs.Lists.{all, joined}
 use Rattle.definitions.specs.Words.{Term, variable, constant, Pattern}
-use Rattle.definitions.specs.Instances.{termValue, ground, isVariable, occursIn}
+use Rattle.definitions.specs.Instances.{termValue, ground}
 use Rattle.definitions.specs.Sheet.{Number}
-use Rattle.definitions.specs.Questions.{Asked, no, yes, _>>=_, _>>_, ask, Walk, within, ruleArgument, clauseArgument, arguments, literal, literals, patternOf, literalOf, inHead, restricted}
-use Rattle.theory.specs.Tests.{by-test, apart, true-and-false, and-left, and-right}
-use Rattle.theory.specs.ListLaws.{joined-append, Each, each-nil, each-cons}
-use Rattle.theory.specs.AskedLaws.{yes-injective, by-asked, bind-yes, ask-yes}
+use Rattle.definitions.specs.Questions.{Asked, no, yes, _>>=_, _>>_, ask, Walk, within, ruleArgument, clauseArgument, arguments, literal, literals, patternOf, literalOf, clauseLiterals, inHead, restricted}
+use Rattle.theory.specs.Tests.{by-test, apart, true-and-false}
+use Rattle.theory.specs.ListLaws.{Each, each-nil, each-cons}
+use Rattle.theory.specs.AskedLaws.{no≢yes, yes-injective, by-asked, bind-yes, ask-yes}
+use Rattle.theory.specs.Limits.{between, within-between}
 use Rattle.sheet.specs.SlotReads.{argument, covered, allCovered}
-use Rattle.encoding.specs.Slots.{termWord, termWords, patternWords, slotWords, hasTerm}
+use Rattle.encoding.specs.Slots.{termWord, termWords, patternWords, slotWords}
 use Rattle.encoding.specs.SlotLaws.{WordTells, InSlot, first-in, second-in, third-in, slots-have}
 
 -- ── a walk in two parts ──
@@ -60,9 +61,6 @@ module _ {A L : Type 0} (argument : Number → Asked A) (make : Bool → ℕ →
       (λ u g. by-asked (walk b (u .left)) (λ q k. cc) (λ w k. cc))))
 
 -- ── what a walk finds and leaves ──
-
-no≢yes : {A : Type 0} {q : ℕ} {a : A} {C : Type 0} → _≡_ {A = Asked A} (no q) (yes a) → C
-no≢yes e = apart (cc)
 
 -- the columns that are left when so many are passed
 pub record RestAfter (passed : ℕ) (ns left : List Number) : Type 0 where
@@ -119,12 +117,13 @@ module _ {A L : Type 0} (argument : Number → Asked A) (make : Bool → ℕ →
       let (t, f) = ask-yes 10 (leb 1 (n .size) && leb (n .size) (length arities)) _ w e in
       let (v, r, g) = bind-yes (arguments argument (getD arities (n .size - 1) 0) ns) _ w f in
       let same = sym (yes-injective g) in
+      let (some, declared) = between 1 (length arities) (n .size) t in
       record {
         column = n;
         behind = ns;
         split = refl;
-        some = leb-true 1 (n .size) (and-left (leb 1 (n .size)) (leb (n .size) (length arities)) t);
-        declared = leb-true (n .size) (length arities) (and-right (leb 1 (n .size)) (leb (n .size) (length arities)) t);
+        some = some;
+        declared = declared;
         args = v;
         read = r;
         found = ap (λ (u : Walk L). u .found) same;
@@ -182,12 +181,6 @@ module _ {A L : Type 0} (argument : Number → Asked A) (make : Bool → ℕ →
 
     pub literals-fewer : length (w .left) ≤ length ns
     literals-fewer = let r = literals-read k ns w e in omega (arith, rest-length (r .passed) ns (w .left) (r .rest))
-
-    pub literals-rest : w .left ≡ drop (length ns - length (w .left)) ns
-    literals-rest =
-        let r = literals-read k ns w e in
-        let passed : r .passed ≡ length ns - length (w .left) = omega (arith, rest-length (r .passed) ns (w .left) (r .rest)) in
-        rw passed at (r .rest .rest)
 
 -- ── refusals ──
 
@@ -292,9 +285,9 @@ clause-argument constants n = by-test (within 1 constants n) (λ t. cc) (λ t. c
 
 -- a clause is read as patterns whose terms are constants
 pub clause-literals : (constants : ℕ) (arities : List ℕ) (k : ℕ) (ns : List Number)
-    → literals (clauseArgument constants) literalOf arities k ns
+    → clauseLiterals constants arities k ns
     ≡ (literals (argument false constants) patternOf arities k ns >>= λ w. yes (record { found = map (ground []) (w .found); left = w .left }))
-unfolding ground patternOf literalOf
+unfolding ground patternOf literalOf clauseLiterals
 clause-literals constants arities =
     literals-map (termValue []) (ground []) (argument false constants) (clauseArgument constants) patternOf literalOf arities
     (clause-argument constants)
@@ -306,17 +299,6 @@ clause-literals constants arities =
 abbrev pub TermInRange : Bool → ℕ → Term → Type 0
 TermInRange rule constants (variable v) = (rule ≡ true) × (1 ≤ v) × (v ≤ 6)
 TermInRange rule constants (constant c) = (1 ≤ c) × (c ≤ constants)
-
-between : (low high n : ℕ) → (leb low n && leb n high) ≡ true → (low ≤ n) × (n ≤ high)
-between low high n e = (leb-true low n (and-left (leb low n) (leb n high) e), leb-true n high (and-right (leb low n) (leb n high) e))
-
-within-between : (low high : ℕ) (n : Number) → within low high n ≡ true → (low ≤ n .size) × (n .size ≤ high)
-unfolding within
-within-between low high n e =
-    let sized = not (n .negative) && leb low (n .size) in (
-      leb-true low (n .size) (and-right (not (n .negative)) (leb low (n .size)) (and-left sized (leb (n .size) high) e)),
-      leb-true (n .size) high (and-right sized (leb (n .size) high) e),
-    )
 
 pub argument-in-range : (rule : Bool) (constants : ℕ) (n : Number) (t : Term) → argument rule constants n ≡ yes t → TermInRange rule constants t
 unfolding argument ruleArgument

@@ -13,6 +13,15 @@ ghost use Rattle.definitions.specs.Questions.{read};
 ghost use Rattle.sheet.specs.Rows.{numbers};
 ghost use Rattle.encoding.specs.Encoding.{arrays, emptyIndex};
 ghost use Rattle.sheet.specs.LineReads.{Ready, LineHeld, SheetRead};
+use encoding::ATOMS;
+use encoding::CODES;
+use encoding::LITERALS;
+use encoding::RULE_WORDS;
+use encoding::STARTS;
+use encoding::SYMBOLS;
+
+// The most bytes of a sheet.
+pub const SHEET_BYTES: usize = 16384;
 
 // The first question that is answered no, or the sizes of what was read.
 pub enum Read {
@@ -33,12 +42,12 @@ fn line_of_kind(
     n: usize,
     s: Sizes,
     slots: &mut [u16; 32],
-    arities: &mut [u8; 16],
-    rules: &mut [u16; 704],
-    starts: &mut [u16; 578],
-    literals: &mut [u16; 2568],
-    table: &mut [u32; 256],
-    index: &mut [u16; 524288],
+    arities: &mut [u8; SYMBOLS],
+    rules: &mut [u16; RULE_WORDS],
+    starts: &mut [u16; STARTS],
+    literals: &mut [u16; LITERALS],
+    table: &mut [u32; ATOMS],
+    index: &mut [u16; CODES],
 ) -> LineRead
     requires { ⌜ (1 ≤ n) × (n ≤ 34) × Ready s (now arities) (now index) ⌝ }
     ensures { λ r. ⌜ LineHeld kind (drop 1 (numbers n (now (row .entry)))) r s
@@ -61,19 +70,19 @@ fn line_of_kind(
 // After a refusal the arrays hold what had been read; document 01 leaves that free, and nothing is said of it.
 pub fn read_sheet(
     sheet: &[u8],
-    arities: &mut [u8; 16],
-    rules: &mut [u16; 704],
-    starts: &mut [u16; 578],
-    literals: &mut [u16; 2568],
-    table: &mut [u32; 256],
-    index: &mut [u16; 524288],
+    arities: &mut [u8; SYMBOLS],
+    rules: &mut [u16; RULE_WORDS],
+    starts: &mut [u16; STARTS],
+    literals: &mut [u16; LITERALS],
+    table: &mut [u32; ATOMS],
+    index: &mut [u16; CODES],
 ) -> Read
     requires { ⌜ now index ≡ emptyIndex ⌝ }
     ensures { λ r. ⌜ SheetRead (read (now (sheet .entry))) r
         (arrays (now (arities .entry)) (now (rules .entry)) (now (starts .entry)) (now (literals .entry)) (now (table .entry)) (now (index .entry)))
         (arrays (now (arities .exit)) (now (rules .exit)) (now (starts .exit)) (now (literals .exit)) (now (table .exit)) (now (index .exit))) ⌝ }
 {
-    if 16384 < sheet.len() {
+    if SHEET_BYTES < sheet.len() {
         return Read::Refused(Refusal { number: 2, line: 0 });
     }
     if sheet.len() == 0 {

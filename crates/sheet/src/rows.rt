@@ -3,10 +3,10 @@ ghost use mathlib.Core.Path.{_≡_};
 ghost use Prim.Native.Nat.{_+_, _-_, _*_, _/_, _≤_, _<_};
 ghost use lib.Dec.{ltb};
 ghost use lib.ListN.{length, take, drop};
-ghost use Rattle.definitions.specs.Questions.{columns, within};
+ghost use Rattle.definitions.specs.Questions.{columns, within, columnsAsked};
 ghost use Rattle.encoding.specs.Signs.{wordOf, numberOf};
 ghost use Rattle.sheet.specs.Rows.{numbers, rowAsked, lineLength, kindHere};
-ghost use Rattle.sheet.specs.LineReads.{columnsAsked, columnsRead};
+ghost use Rattle.sheet.specs.LineReads.{columnsRead};
 use column::Column;
 
 // The place of the first LF from here on, or the sheet's length where there is none.

@@ -7,15 +7,14 @@ use native.Mathlib.Omega.{arith}
 use lib.Dec.{leb}
 use lib.ListN.{length, length-append, getD, List·getD-append}
 use borrow.Author.Tests.{leb-true, le-leb}
-use Rattle.definitions.specs.Lists.{isEmpty}
 use Rattle.definitions.specs.Words.{constant, Rule, Clause}
 use Rattle.definitions.specs.Sheet.{Number}
-use Rattle.definitions.specs.Questions.{Asked, no, yes, _>>=_, _>>_, ask, Walk, within, count, ruleArgument, clauseArgument, arguments, literal, literals, patternOf, literalOf, restricted}
+use Rattle.definitions.specs.Questions.{Asked, no, yes, _>>=_, _>>_, ask, Walk, within, count, ruleArgument, clauseArgument, arguments, literal, literals, patternOf, literalOf, patterns, clauseLiterals, ruleCounts, ruleBehind, clauseCount, clauseBehind}
 use Rattle.theory.specs.Tests.{by-test, apart, not-true, and-left, and-right, and-intro}
 
 -- ── every question of an accepted chain is answered yes ──
 
-no≢yes : {A : Type 0} {q : ℕ} {a : A} {C : Type 0} → _≡_ {A = Asked A} (no q) (yes a) → C
+pub no≢yes : {A : Type 0} {q : ℕ} {a : A} {C : Type 0} → _≡_ {A = Asked A} (no q) (yes a) → C
 no≢yes e = apart (cc)
 
 pub yes-injective : {A : Type 0} {a b : A} → _≡_ {A = Asked A} (yes a) (yes b) → a ≡ b
@@ -47,7 +46,7 @@ yes-ask q t m a e h = cc
 -- ── a column that holds a count ──
 
 -- the column is the first one, and its number is what was found
-pub record Counted (low high : ℕ) (ns : List Number) (w : Walk ℕ) : Type 0 where
+pub record CountColumn (low high : ℕ) (ns : List Number) (w : Walk ℕ) : Type 0 where
   pub column : Number
   pub split : ns ≡ column ∷ w .left
   pub size : column .size ≡ w .found
@@ -55,7 +54,7 @@ pub record Counted (low high : ℕ) (ns : List Number) (w : Walk ℕ) : Type 0 w
   pub least : low ≤ w .found
   pub most : w .found ≤ high
 
-pub count-yes : (q low high : ℕ) (ns : List Number) (w : Walk ℕ) → count q low high ns ≡ yes w → Counted low high ns w
+pub count-yes : (q low high : ℕ) (ns : List Number) (w : Walk ℕ) → count q low high ns ≡ yes w → CountColumn low high ns w
 unfolding count within
 count-yes q low high [] w e = no≢yes e
 count-yes q low high (n ∷ ns) w e =
@@ -150,46 +149,30 @@ clauseArgument-accepts c d h n =
     (and-accepts (not (n .negative) && leb 1 (n .size)) (leb (n .size) c) (leb (n .size) d) (leb-accepts (n .size) c d h))
     (λ t a e. e)
 
--- the rule of a line of kind 3, from the columns behind the kind
+-- the rule and the clause of the columns behind the kind, without question 9
 unfoldable pub readRule : ℕ → List ℕ → List Number → Asked Rule
-readRule constants arities ns = do
-  headCount ← count 8 1 3 ns
-  bodyCount ← count 8 0 2 (headCount .left)
-  heads ← literals (ruleArgument constants) patternOf arities (headCount .found) (bodyCount .left)
-  body ← literals (ruleArgument constants) patternOf arities (bodyCount .found) (heads .left)
-  ask 11 (isEmpty (body .left))
-  let r : Rule = record { heads = heads .found; body = body .found }
-  ask 12 (restricted r)
-  yes r
+readRule constants arities ns = ruleCounts ns >>= ruleBehind constants arities
 
--- the clause of a line of kind 4
 unfoldable pub readClause : ℕ → List ℕ → List Number → Asked Clause
-readClause constants arities ns = do
-  literalCount ← count 8 0 8 ns
-  c ← literals (clauseArgument constants) literalOf arities (literalCount .found) (literalCount .left)
-  ask 11 (isEmpty (c .left))
-  yes (c .found)
+readClause constants arities ns = clauseCount ns >>= clauseBehind constants arities
 
 -- a line reads the same with more constants and with more symbols behind those that there are
 module _ (constants more : ℕ) (arities others : List ℕ) (h : constants ≤ more) where
   pub readRule-accepts : (ns : List Number) → Accepts (readRule constants arities ns) (readRule more (arities ++ others) ns)
-  unfolding readRule
+  unfolding readRule ruleBehind
   readRule-accepts ns =
       bind-accepts (λ w e. e)
-      (λ headCount. bind-accepts (λ w e. e)
-      (λ bodyCount. bind-accepts (walk (headCount .found) (bodyCount .left))
-      (λ heads. bind-accepts (walk (bodyCount .found) (heads .left)) (λ body r e. e))))
+      (λ counts. bind-accepts (walk (counts .found .heads) (counts .left))
+      (λ heads. bind-accepts (walk (counts .found .body) (heads .left)) (λ body r e. e)))
     where
-      walk : (k : ℕ) (ns : List Number)
-          → Accepts (literals (ruleArgument constants) patternOf arities k ns) (literals (ruleArgument more) patternOf (arities ++ others) k ns)
-      walk = literals-accepts (ruleArgument constants) (ruleArgument more) (ruleArgument-accepts constants more h) patternOf arities others
+      walk : (k : ℕ) (ns : List Number) → Accepts (patterns constants arities k ns) (patterns more (arities ++ others) k ns)
+      walk = unfold patterns in literals-accepts (ruleArgument constants) (ruleArgument more) (ruleArgument-accepts constants more h) patternOf arities others
 
   pub readClause-accepts : (ns : List Number) → Accepts (readClause constants arities ns) (readClause more (arities ++ others) ns)
-  unfolding readClause
+  unfolding readClause clauseBehind
   readClause-accepts ns =
       bind-accepts (λ w e. e)
       (λ literalCount. bind-accepts (walk (literalCount .found) (literalCount .left)) (λ c r e. e))
     where
-      walk : (k : ℕ) (ns : List Number)
-          → Accepts (literals (clauseArgument constants) literalOf arities k ns) (literals (clauseArgument more) literalOf (arities ++ others) k ns)
-      walk = literals-accepts (clauseArgument constants) (clauseArgument more) (clauseArgument-accepts constants more h) literalOf arities others
+      walk : (k : ℕ) (ns : List Number) → Accepts (clauseLiterals constants arities k ns) (clauseLiterals more (arities ++ others) k ns)
+      walk = unfold clauseLiterals in literals-accepts (clauseArgument constants) (clauseArgument more) (clauseArgument-accepts constants more h) literalOf arities others

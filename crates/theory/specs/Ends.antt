@@ -12,13 +12,13 @@ use borrow.Author.Tests.{leb-true, ltb-true}
 use Rattle.definitions.specs.Lists.{_∈_}
 use Rattle.definitions.specs.Words.{Atom, Literal, negate, plain, goalAtoms}
 use Rattle.definitions.specs.Instances.{Instance, Task}
-use Rattle.definitions.specs.Search.{Why, decided, flipped, forced, Entry, Trail, isUnset, Logged, clauseOf, State, start, force, isGoal, nextAct, nextInstance, loggedOf, enterTaken, nextGoal, backtrack, setUnit, logInstance, decide, afterConflict, Outcome, more, done, hasRoom, step, run, enough, searchTask}
+use Rattle.definitions.specs.Search.{decided, flipped, forced, Entry, Trail, isUnset, Logged, clauseOf, State, start, force, isGoal, nextAct, nextInstance, loggedOf, enterTaken, nextGoal, backtrack, setUnit, logInstance, decide, afterConflict, Outcome, more, done, hasRoom, step, run, enough, searchTask}
 use Rattle.definitions.specs.declared.Verdict.{Verdict}
 use Rattle.theory.specs.Tests.{apart, and-left, and-right}
 use Rattle.theory.specs.ListLaws.{in-along, at-split, Different, pigeonhole}
 use Rattle.theory.specs.WordLaws.{negate-atom, goal-of}
-use Rattle.theory.specs.SearchLaws.{true-at, unset-new, clause-cases, force-unit, mayLogged, act-from, fired, goal-first, enterTaken-old, enterTaken-new}
-use Rattle.theory.specs.Steps.{Step, unit, undone, refuted, logs, overflows, decides, overspends, rests, kind, After, run-keeps, Falls, Ended, run-ends}
+use Rattle.theory.specs.SearchLaws.{by-why, true-at, unset-new, clause-cases, force-unit, mayLogged, act-from, fired, goal-first, enterTaken-old, enterTaken-new}
+use Rattle.theory.specs.Steps.{Step, unit, undone, refuted, logs, overflows, decides, overspends, rests, kind, After, run-keeps, Falls, IsDone, run-ends}
 
 -- what holds of every state: all atoms in use are in the table, none is set twice, and neither table nor log is too long
 pub record Fits (k : Task) (s : State) : Type 0 where
@@ -31,11 +31,6 @@ pub record Fits (k : Task) (s : State) : Type 0 where
 
 abbrev atomOf : Entry → Atom
 atomOf e = e .literal .atom
-
-by-why : (w : Why) {C : Type 0} → (w ≡ decided → C) → (w ≡ flipped → C) → (w ≡ forced → C) → C
-by-why decided d f g = d refl
-by-why flipped d f g = f refl
-by-why forced d f g = g refl
 
 -- ── every step keeps it ──
 
@@ -271,7 +266,7 @@ unfolding start measure enough standing
 start-measure k budget = omega arith
 
 -- with at most 256 goal atoms the search ends, whatever the budget
-pub search-ends : (k : Task) (budget : ℕ) → length (goalAtoms (k .clauses)) ≤ 256 → Ended (searchTask k budget)
+pub search-ends : (k : Task) (budget : ℕ) → length (goalAtoms (k .clauses)) ≤ 256 → IsDone (searchTask k budget)
 unfolding searchTask
 search-ends k budget h =
     run-ends k budget (Fits k) (measure budget) (step-falls k budget) (enough budget) (start k) (start-fits k h) (start-measure k budget)

@@ -12,7 +12,7 @@ use Rattle.definitions.specs.Search.{State, done, searchTask, search}
 use Rattle.definitions.specs.Verdicts.{setting}
 use Rattle.definitions.specs.declared.Verdict.the-variants.{Unsat, Unknown}
 use Rattle.theory.specs.WordLaws.{makes-not-both, goal-of, goal-from}
-use Rattle.theory.specs.InstanceLaws.{substitutions-more, Found, Filled, instance-filled, filled-instance}
+use Rattle.theory.specs.InstanceLaws.{substitutions-more, Renumbered, Filled, instance-filled, filled-instance}
 use Rattle.theory.specs.Choices.{unsat-means}
 use Rattle.theory.specs.Unknown.{unknown-means}
 
@@ -21,7 +21,7 @@ use Rattle.theory.specs.Unknown.{unknown-means}
 -- the clauses and instances of one task are among those of another
 pub record Among (k m : Task) : Type 0 where
   pub clauses : (c : Clause) → c ∈ k .clauses → c ∈ m .clauses
-  pub instances : (i : Instance) → i ∈ k .instances → Found i (m .instances)
+  pub instances : (i : Instance) → i ∈ k .instances → Renumbered i (m .instances)
 
 module _ (k m : Task) (among : Among k m) (σ : Choice) where
   goal-among : (a : Atom) → a ∈ goalAtoms (k .clauses) → a ∈ goalAtoms (m .clauses)

@@ -11,7 +11,7 @@ use borrow.Author.Tests.{eqb-true, eqb-false, leb-true, ltb-true, eq-eqb, ne-eqb
 use Rattle.definitions.specs.Lists.{_∈_, isEmpty, distinct, joined}
 use Rattle.definitions.specs.Words.{Literal, Clause, Term, variable, constant, Pattern, Rule, Problem, goalAtoms}
 use Rattle.definitions.specs.Sheet.{Line, putByte, lines, Number}
-use Rattle.definitions.specs.Questions.{Asked, no, yes, _>>=_, _>>_, ask, columns, Walk, within, count, kindOf, ruleArgument, clauseArgument, arguments, literal, literals, patternOf, literalOf, patterns, clauseLiterals, restricted, withConstants, withSymbol, withRule, withClause, constantsLine, symbolLine, ruleLine, clauseLine, lineOfKind, Draft, readLine, accepted, readLines, emptyDraft, read}
+use Rattle.definitions.specs.Questions.{Asked, no, yes, _>>=_, _>>_, ask, Walk, within, count, kindOf, ruleArgument, clauseArgument, arguments, literal, literals, patternOf, literalOf, patterns, clauseLiterals, restricted, constantsAsked, arityAsked, ruleCounts, ruleBehind, ruleAsked, clauseCount, clauseBehind, clauseAsked, withConstants, withSymbol, withRule, withClause, constantsLine, symbolLine, ruleLine, clauseLine, lineOfKind, columnsAsked, Draft, readLine, accepted, readLines, emptyDraft, read}
 use Rattle.theory.specs.Tests.{by-test, apart, and-left, and-right}
 use Rattle.theory.specs.TableLaws.{enterAll, enter-known, joined-more, atomsOf, goal-atoms-more}
 use Rattle.theory.specs.AskedLaws.{by-asked}
@@ -129,13 +129,13 @@ asked q {b = false} g = refuses q
 
 -- ── the columns of a line ──
 
-abbrev Between : ℕ → ℕ → ℕ → Type 0
+abbrev pub Between : ℕ → ℕ → ℕ → Type 0
 Between low high n = (low ≤ n) × (n ≤ high)
 
-between : (low high n : ℕ) → (leb low n && leb n high) ≡ true → Between low high n
+pub between : (low high n : ℕ) → (leb low n && leb n high) ≡ true → Between low high n
 between low high n e = (leb-true low n (and-left (leb low n) (leb n high) e), leb-true n high (and-right (leb low n) (leb n high) e))
 
-within-between : (low high : ℕ) (n : Number) → within low high n ≡ true → Between low high (n .size)
+pub within-between : (low high : ℕ) (n : Number) → within low high n ≡ true → Between low high (n .size)
 unfolding within
 within-between low high n e =
     let natural = not (n .negative) in
@@ -202,22 +202,70 @@ module _ {A : Type 0} (argument : Number → Asked A) (InRange : A → Type 0) (
         then (literals-keep k (l .left)) λ w g.
         allows _ (ap suc (g .0), each-cons Keeps h (g .1))
 
-patterns-limits : (p : Problem) (k : ℕ) (ns : List Number) → Gives (Many (PatternLimits p) k) (patterns p k ns)
+patterns-limits : (p : Problem) (k : ℕ) (ns : List Number) → Gives (Many (PatternLimits p) k) (patterns (p .constants) (p .arities) k ns)
 unfolding patterns patternOf
 patterns-limits p =
     literals-keep (ruleArgument (p .constants)) (TermLimits p) (rule-argument p) patternOf (p .arities) (PatternLimits p)
     λ b s ts d e g. record { symbol = d .0; declared = d .1; terms = e; inRange = g }
 
-literals-limits : (p : Problem) (k : ℕ) (ns : List Number) → Gives (Many (LiteralLimits p) k) (clauseLiterals p k ns)
+literals-limits : (p : Problem) (k : ℕ) (ns : List Number) → Gives (Many (LiteralLimits p) k) (clauseLiterals (p .constants) (p .arities) k ns)
 unfolding clauseLiterals literalOf
 literals-limits p =
     literals-keep (clauseArgument (p .constants)) (Between 1 (p .constants)) (clause-argument p) literalOf (p .arities) (LiteralLimits p)
     λ b s cs d e g. record { symbol = d .0; declared = d .1; args = e; inRange = g }
 
--- the literals of a clause, as they are read, keep the limits
-pub clause-literals-limits : (p : Problem) (k : ℕ) (ns : List Number) (w : Walk Clause) → clauseLiterals p k ns ≡ yes w
-    → (l : Literal) → l ∈ w .found → LiteralLimits p l
-clause-literals-limits p k ns w e = given (literals-limits p k ns) w e .1
+-- ── what a line of each kind gives ──
+
+constants-asked : (ns : List Number) → Gives (Between 1 32) (constantsAsked ns)
+unfolding constantsAsked
+constants-asked ns = then (count-between 8 1 32 ns) λ n h. asked 11 λ _. allows _ h
+
+arity-asked : (symbols : ℕ) (ns : List Number) → Gives (λ n. (n ≤ 3) × (ltb symbols 16 ≡ true)) (arityAsked symbols ns)
+unfolding arityAsked
+arity-asked symbols ns = then (count-between 8 0 3 ns) λ n h. asked 9 λ room. asked 11 λ _. allows _ (h .1, room)
+
+counts-between : (ns : List Number) → Gives (λ w. Between 1 3 (w .found .heads) × Between 0 2 (w .found .body)) (ruleCounts ns)
+unfolding ruleCounts
+counts-between ns =
+    then (count-between 8 1 3 ns) λ heads h.
+    then (count-between 8 0 2 (heads .left)) λ body b.
+    allows _ (h, b)
+
+rule-asked : (p : Problem) (ns : List Number)
+    → Gives (λ r. RuleLimits p r × (ltb (length (p .rules)) 32 ≡ true)) (ruleAsked (p .constants) (p .arities) (length (p .rules)) ns)
+unfolding ruleAsked ruleBehind
+rule-asked p ns =
+    then (counts-between ns) λ counts h.
+    asked 9 λ room.
+    then (patterns-limits p (counts .found .heads) (counts .left)) λ heads hl.
+    then (patterns-limits p (counts .found .body) (heads .left)) λ body bl.
+    asked 11 λ _.
+    asked 12 λ safe.
+    allows _ (
+      record {
+        someHead = omega (arith, hl .0, h .0 .0);
+        heads = omega (arith, hl .0, h .0 .1);
+        body = omega (arith, bl .0, h .1 .1);
+        isRestricted = safe;
+        eachHead = hl .1;
+        eachBody = bl .1;
+      },
+      room,
+    )
+
+clause-asked : (p : Problem) (ns : List Number)
+    → Gives (λ c. ClauseLimits p c × (ltb (length (p .clauses)) 64 ≡ true)) (clauseAsked (p .constants) (p .arities) (length (p .clauses)) ns)
+unfolding clauseAsked clauseCount clauseBehind
+clause-asked p ns =
+    then (count-between 8 0 8 ns) λ literalCount h.
+    asked 9 λ room.
+    then (literals-limits p (literalCount .found) (literalCount .left)) λ c cl.
+    asked 11 λ _.
+    allows _ (record { literals = omega (arith, cl .0, h .1); eachLiteral = cl .1 }, room)
+
+-- a clause, as it is read, keeps the limits
+pub clause-asked-limits : (p : Problem) (ns : List Number) (c : Clause) → clauseAsked (p .constants) (p .arities) (length (p .clauses)) ns ≡ yes c → ClauseLimits p c
+clause-asked-limits p ns c e = given (clause-asked p ns) c e .0
 
 -- ── a line ──
 
@@ -266,8 +314,7 @@ Bare p = (p .rules ≡ []) × (p .clauses ≡ [])
 constants-line : (p : Problem) → p .arities ≡ [] → Bare p → (ns : List Number) → Gives (λ q. Limits q × Bare q) (constantsLine p ns)
 unfolding constantsLine withConstants goalAtoms distinct joined
 constants-line p a b ns =
-    then (count-between 8 1 32 ns) λ n h.
-    asked 11 λ _.
+    then (constants-asked ns) λ n h.
     allows _ (
       record {
         someConstant = h .0;
@@ -286,15 +333,13 @@ constants-line p a b ns =
 symbol-line : (p : Problem) → Limits p → Bare p → (ns : List Number) → Gives (λ q. Limits q × Bare q) (symbolLine p ns)
 unfolding symbolLine withSymbol
 symbol-line p l b ns =
-    then (count-between 8 0 3 ns) λ n h.
-    asked 9 λ room.
-    asked 11 λ _.
+    then (arity-asked (length (p .arities)) ns) λ n h.
     allows _ (
       record {
         someConstant = l .someConstant;
         constants = l .constants;
-        symbols = one-more (p .arities) (n .found) 16 room;
-        eachArity = each-more (λ k. k ≤ 3) (p .arities) (n .found) (l .eachArity) (h .1);
+        symbols = one-more (p .arities) n 16 (h .1);
+        eachArity = each-more (λ k. k ≤ 3) (p .arities) n (l .eachArity) (h .0);
         rules = l .rules;
         eachRule = λ r m. absurd (none-in (b .0) r m);
         clauses = l .clauses;
@@ -307,30 +352,15 @@ symbol-line p l b ns =
 rule-line : (p : Problem) → Limits p → (ns : List Number) → Gives Limits (ruleLine p ns)
 unfolding ruleLine withRule
 rule-line p l ns =
-    then (count-between 8 1 3 ns) λ headCount h.
-    then (count-between 8 0 2 (headCount .left)) λ bodyCount b.
-    asked 9 λ room.
-    then (patterns-limits p (headCount .found) (bodyCount .left)) λ heads hl.
-    then (patterns-limits p (bodyCount .found) (heads .left)) λ body bl.
-    asked 11 λ _.
-    asked 12 λ safe.
-    let r : Rule = record { heads = heads .found; body = body .found } in
-    let limits : RuleLimits p r = record {
-      someHead = omega (arith, hl .0, h .0);
-      heads = omega (arith, hl .0, h .1);
-      body = omega (arith, bl .0, b .1);
-      isRestricted = safe;
-      eachHead = hl .1;
-      eachBody = bl .1;
-    } in
+    then (rule-asked p ns) λ r h.
     let rs = p .rules ++ (r ∷ []) in
     allows _ (record {
       someConstant = l .someConstant;
       constants = l .constants;
       symbols = l .symbols;
       eachArity = l .eachArity;
-      rules = one-more (p .rules) r 32 room;
-      eachRule = λ x m. rule-beside p rs (p .clauses) (each-more (RuleLimits p) (p .rules) r (l .eachRule) limits x m);
+      rules = one-more (p .rules) r 32 (h .1);
+      eachRule = λ x m. rule-beside p rs (p .clauses) (each-more (RuleLimits p) (p .rules) r (l .eachRule) (h .0) x m);
       clauses = l .clauses;
       eachClause = λ c m. clause-beside p rs (p .clauses) (l .eachClause c m);
       goals = l .goals;
@@ -339,13 +369,9 @@ rule-line p l ns =
 clause-line : (p : Problem) → Limits p → (ns : List Number) → Gives Limits (clauseLine p ns)
 unfolding clauseLine withClause
 clause-line p l ns =
-    then (count-between 8 0 8 ns) λ literalCount h.
-    asked 9 λ room.
-    then (literals-limits p (literalCount .found) (literalCount .left)) λ c cl.
-    asked 11 λ _.
+    then (clause-asked p ns) λ c h.
     asked 13 λ few.
-    let limits : ClauseLimits p (c .found) = record { literals = omega (arith, cl .0, h .1); eachLiteral = cl .1 } in
-    let cs = p .clauses ++ (c .found ∷ []) in
+    let cs = p .clauses ++ (c ∷ []) in
     allows _ (record {
       someConstant = l .someConstant;
       constants = l .constants;
@@ -353,8 +379,8 @@ clause-line p l ns =
       eachArity = l .eachArity;
       rules = l .rules;
       eachRule = λ r m. rule-beside p (p .rules) cs (l .eachRule r m);
-      clauses = one-more (p .clauses) (c .found) 64 room;
-      eachClause = λ x m. clause-beside p (p .rules) cs (each-more (ClauseLimits p) (p .clauses) (c .found) (l .eachClause) limits x m);
+      clauses = one-more (p .clauses) c 64 (h .1);
+      eachClause = λ x m. clause-beside p (p .rules) cs (each-more (ClauseLimits p) (p .clauses) c (l .eachClause) (h .0) x m);
       goals = leb-true (length (goalAtoms cs)) 64 few;
     })
 
@@ -417,9 +443,7 @@ pub record Begun (d : Draft) : Type 0 where
 first-line : (l : Line) → Gives Begun (readLine emptyDraft l)
 unfolding readLine emptyDraft kindOf
 first-line l =
-    asked 4 λ _.
-    asked 5 λ _.
-    then (anything (columns (l .bytes))) λ ns _.
+    then (anything (columnsAsked l)) λ ns _.
     then (count-between 7 1 1 ns) λ k h.
     then (line-of-kind-1 _ refl (refl, refl) (k .found) (omega (arith, h .0, h .1)) (k .left)) λ p g.
     allows _ (record { limits = g .0; begun = h .0; bare = λ _. g .1 })
@@ -427,9 +451,7 @@ first-line l =
 later-line : (d : Draft) → Begun d → (l : Line) → Gives Begun (readLine d l)
 unfolding readLine
 later-line d i l =
-    asked 4 λ _.
-    asked 5 λ _.
-    then (anything (columns (l .bytes))) λ ns _.
+    then (anything (columnsAsked l)) λ ns _.
     then (later-kind (d .before) ns (i .begun)) λ k h.
     then (line-of-later-kind (d .problem) (i .limits) (k .found) (h .0) (λ le. i .bare (omega (arith, h .1, le))) (k .left)) λ p g.
     allows _ (record { limits = g .0; begun = omega (arith, h .0); bare = g .1 })

@@ -53,9 +53,9 @@ signed-length f h =
     (λ e. let room : digitRoom f ≡ f .width - 1 = cc in rw (e, signedDecimals) (omega (arith, room, digits, h .someDigit)))
     (λ e. let room : digitRoom f ≡ f .width = cc in rw (e, signedDecimals) (omega (arith, room, digits)))
 
-pub field-length : (f : Field) → FieldFits f → length (fieldBytes f) ≡ f .width
+field-fits-length : (f : Field) → FieldFits f → length (fieldBytes f) ≡ f .width
 unfolding fieldBytes rightJustified
-field-length f h =
+field-fits-length f h =
     let bytes = signedDecimals (f .width) (f .number) in
     let blanks = f .width - length bytes in
     omega (arith, signed-length f h, length-append (replicate blanks 32) bytes, length-replicate {A = ℕ} blanks 32)
@@ -71,7 +71,7 @@ columns-length : (fs : List Field) → ((f : Field) → f ∈ fs → FieldFits f
 unfolding totalWidth joined
 columns-length [] h = refl
 columns-length (f ∷ fs) h =
-    let first = field-length f (h f (List·Memᴰ·head refl)) in
+    let first = field-fits-length f (h f (List·Memᴰ·head refl)) in
     let rest = columns-length fs (λ g m. h g (List·Memᴰ·tail m)) in
     omega (arith, length-append (fieldBytes f) (joined fieldBytes fs), first, rest)
 

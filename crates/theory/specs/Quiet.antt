@@ -1,7 +1,7 @@
 -- An instance that did not fire does not fire once a literal is set that is none of its heads. Assumes nothing.
 use mathlib.Core.Path.{_≡_, refl}
 use mathlib.Core.Logic.{inl, inr}
-use mathlib.Core.Bool.{Bool, true, false, not, _&&_, _||_}
+use mathlib.Core.Bool.{Bool, true, false, not, _||_}
 use mathlib.Core.List.{List, [], _∷_}
 use Rattle.definitions.specs.Lists.{isEmpty, any, all}
 use Rattle.definitions.specs.Words.{Literal, sameLiteral}

@@ -11,11 +11,11 @@ use borrow.Author.Tests.{eqb-true, eqb-false, leb-true}
 use Rattle.definitions.specs.Lists.{_∈_, isEmpty, keep, joined}
 use Rattle.definitions.specs.Words.{Rule, Clause, Problem, goalAtoms}
 use Rattle.definitions.specs.Sheet.{Line, lines, Number}
-use Rattle.definitions.specs.Questions.{Asked, yes, columns, Walk, count, kindOf, patterns, clauseLiterals, restricted, withConstants, withSymbol, withRule, withClause, constantsLine, symbolLine, ruleLine, clauseLine, lineOfKind, goodLength, Draft, readLine, accepted, readLines, emptyDraft, read}
+use Rattle.definitions.specs.Questions.{Asked, yes, Walk, count, kindOf, constantsAsked, arityAsked, ruleCounts, ruleAsked, clauseCount, clauseAsked, withConstants, withSymbol, withRule, withClause, constantsLine, symbolLine, ruleLine, clauseLine, lineOfKind, goodLength, columnsAsked, Draft, readLine, accepted, readLines, emptyDraft, read}
 use Rattle.definitions.specs.Sheets.{Row, rowOf, isKind, ofKind, firstSize, constantsOf}
 use Rattle.theory.specs.Tests.{by-test, apart}
 use Rattle.theory.specs.ListLaws.{in-along}
-use Rattle.theory.specs.AskedLaws.{yes-injective, by-asked, bind-yes, ask-yes, yes-bind, yes-ask, count-yes, readRule, readClause}
+use Rattle.theory.specs.AskedLaws.{yes-injective, by-asked, bind-yes, ask-yes, yes-bind, count-yes, readRule, readClause}
 
 -- ── a line of each kind, from its columns behind the kind ──
 
@@ -23,58 +23,41 @@ counted-first : (q low high : ℕ) (ns : Row) (w : Walk ℕ) → count q low hig
 unfolding firstSize
 counted-first q low high ns w e = let c = count-yes q low high ns w e in ap firstSize (c .split) ∙ c .size
 
-constants-read : (s : Problem) (ns : Row) (p : Problem) → constantsLine s ns ≡ yes p → p ≡ withConstants s (firstSize ns)
-unfolding constantsLine
-constants-read s ns p e =
-    let (n, h, e₁) = bind-yes (count 8 1 32 ns) _ p e in
-    let (_, e₂) = ask-yes 11 (isEmpty (n .left)) _ p e₁ in
-    cc (counted-first 8 1 32 ns n h)
+constantsLine-yes : (s : Problem) (ns : Row) (p : Problem) → constantsLine s ns ≡ yes p → p ≡ withConstants s (firstSize ns)
+unfolding constantsLine constantsAsked
+constantsLine-yes s ns p e =
+    let (n, h, e₁) = bind-yes (constantsAsked ns) _ p e in
+    let (w, h₁, h₂) = bind-yes (count 8 1 32 ns) _ n h in
+    let (_, h₃) = ask-yes 11 (isEmpty (w .left)) _ n h₂ in
+    cc (counted-first 8 1 32 ns w h₁)
 
-symbol-read : (s : Problem) (ns : Row) (p : Problem) → symbolLine s ns ≡ yes p → p ≡ withSymbol s (firstSize ns)
-unfolding symbolLine
-symbol-read s ns p e =
-    let (n, h, e₁) = bind-yes (count 8 0 3 ns) _ p e in
-    let (_, e₂) = ask-yes 9 (ltb (length (s .arities)) 16) _ p e₁ in
-    let (_, e₃) = ask-yes 11 (isEmpty (n .left)) _ p e₂ in
-    cc (counted-first 8 0 3 ns n h)
+symbolLine-yes : (s : Problem) (ns : Row) (p : Problem) → symbolLine s ns ≡ yes p → p ≡ withSymbol s (firstSize ns)
+unfolding symbolLine arityAsked
+symbolLine-yes s ns p e =
+    let (n, h, e₁) = bind-yes (arityAsked (length (s .arities)) ns) _ p e in
+    let (w, h₁, h₂) = bind-yes (count 8 0 3 ns) _ n h in
+    let (_, h₃) = ask-yes 9 (ltb (length (s .arities)) 16) _ n h₂ in
+    let (_, h₄) = ask-yes 11 (isEmpty (w .left)) _ n h₃ in
+    cc (counted-first 8 0 3 ns w h₁)
 
-pub rule-read : (s : Problem) (ns : Row) (p : Problem) → ruleLine s ns ≡ yes p
+ruleLine-yes : (s : Problem) (ns : Row) (p : Problem) → ruleLine s ns ≡ yes p
     → (r : Rule) × (readRule (s .constants) (s .arities) ns ≡ yes r) × (p ≡ withRule s r)
-unfolding ruleLine patterns readRule
-rule-read s ns p e =
-    let (n, h₁, e₁) = bind-yes (count 8 1 3 ns) _ p e in
-    let (m, h₂, e₂) = bind-yes (count 8 0 2 (n .left)) _ p e₁ in
-    let (_, e₃) = ask-yes 9 (ltb (length (s .rules)) 32) _ p e₂ in
-    let (heads, h₄, e₄) = bind-yes (patterns s (n .found) (m .left)) _ p e₃ in
-    let (body, h₅, e₅) = bind-yes (patterns s (m .found) (heads .left)) _ p e₄ in
-    let (h₆, e₆) = ask-yes 11 (isEmpty (body .left)) _ p e₅ in
-    let r : Rule = record { heads = heads .found; body = body .found } in
-    let (h₇, e₇) = ask-yes 12 (restricted r) _ p e₆ in (
-      r,
-      yes-bind (count 8 1 3 ns) _ n r h₁
-          (yes-bind (count 8 0 2 (n .left)) _ m r h₂
-          (yes-bind (patterns s (n .found) (m .left)) _ heads r h₄
-          (yes-bind (patterns s (m .found) (heads .left)) _ body r h₅
-          (yes-ask 11 (isEmpty (body .left)) _ r h₆
-          (yes-ask 12 (restricted r) _ r h₇ refl))))),
-      sym (yes-injective e₇),
-    )
+unfolding ruleLine ruleAsked readRule
+ruleLine-yes s ns p e =
+    let (r, h, e₁) = bind-yes (ruleAsked (s .constants) (s .arities) (length (s .rules)) ns) _ p e in
+    let (counts, h₁, h₂) = bind-yes (ruleCounts ns) _ r h in
+    let (_, h₃) = ask-yes 9 (ltb (length (s .rules)) 32) _ r h₂ in
+    (r, yes-bind (ruleCounts ns) _ counts r h₁ h₃, sym (yes-injective e₁))
 
-pub clause-read : (s : Problem) (ns : Row) (p : Problem) → clauseLine s ns ≡ yes p
+clauseLine-yes : (s : Problem) (ns : Row) (p : Problem) → clauseLine s ns ≡ yes p
     → (c : Clause) × (readClause (s .constants) (s .arities) ns ≡ yes c) × (p ≡ withClause s c)
-unfolding clauseLine clauseLiterals readClause
-clause-read s ns p e =
-    let (n, h₁, e₁) = bind-yes (count 8 0 8 ns) _ p e in
-    let (_, e₂) = ask-yes 9 (ltb (length (s .clauses)) 64) _ p e₁ in
-    let (c, h₃, e₃) = bind-yes (clauseLiterals s (n .found) (n .left)) _ p e₂ in
-    let (h₄, e₄) = ask-yes 11 (isEmpty (c .left)) _ p e₃ in
-    let (_, e₅) = ask-yes 13 (leb (length (goalAtoms (withClause s (c .found) .clauses))) 64) _ p e₄ in (
-      c .found,
-      yes-bind (count 8 0 8 ns) _ n (c .found) h₁
-          (yes-bind (clauseLiterals s (n .found) (n .left)) _ c (c .found) h₃
-          (yes-ask 11 (isEmpty (c .left)) _ (c .found) h₄ refl)),
-      sym (yes-injective e₅),
-    )
+unfolding clauseLine clauseAsked readClause
+clauseLine-yes s ns p e =
+    let (c, h, e₁) = bind-yes (clauseAsked (s .constants) (s .arities) (length (s .clauses)) ns) _ p e in
+    let (n, h₁, h₂) = bind-yes (clauseCount ns) _ c h in
+    let (_, h₃) = ask-yes 9 (ltb (length (s .clauses)) 64) _ c h₂ in
+    let (_, e₂) = ask-yes 13 (leb (length (goalAtoms (withClause s c .clauses))) 64) _ p e₁ in
+    (c, yes-bind (clauseCount ns) _ n c h₁ h₃, sym (yes-injective e₂))
 
 -- ── a line of any kind ──
 
@@ -90,7 +73,7 @@ first-adds : (s : Problem) (ns : Row) (k : ℕ) (p : Problem) → 1 ≤ k → k 
 unfolding lineOfKind
 first-adds s ns k p l m e =
     let one : k ≡ 1 = omega arith in
-    rw (one, constants-read s ns p (rw one at e)) (constants refl)
+    rw (one, constantsLine-yes s ns p (rw one at e)) (constants refl)
 
 -- a later line
 later-adds : (before : ℕ) (s : Problem) (ns : Row) (k : ℕ) (p : Problem) → 1 ≤ before → before ≤ k → 2 ≤ k → k ≤ 4
@@ -98,15 +81,15 @@ later-adds : (before : ℕ) (s : Problem) (ns : Row) (k : ℕ) (p : Problem) →
 unfolding lineOfKind
 later-adds before s ns k p b bk l m e =
     by-test (eqb k 2)
-    (λ t. let k≡2 = eqb-true k 2 t in rw (k≡2, symbol-read s ns p (rw k≡2 at e)) (symbol b (omega arith)))
+    (λ t. let k≡2 = eqb-true k 2 t in rw (k≡2, symbolLine-yes s ns p (rw k≡2 at e)) (symbol b (omega arith)))
     (λ t. by-test (eqb k 3)
     (λ u.
     let k≡3 = eqb-true k 3 u in
-    let (r, h, q) = rule-read s ns p (rw k≡3 at e) in
+    let (r, h, q) = ruleLine-yes s ns p (rw k≡3 at e) in
     rw (k≡3, q) (rule r h b))
     (λ u.
     let k≡4 : k ≡ 4 = omega (arith, eqb-false k 2 t, eqb-false k 3 u) in
-    let (c, h, q) = clause-read s ns p (rw k≡4 at e) in
+    let (c, h, q) = clauseLine-yes s ns p (rw k≡4 at e) in
     rw (k≡4, q) (clause c h b)))
 
 -- the columns of an accepted line, its kind first, and what it adds
@@ -146,15 +129,15 @@ kind-read (suc b) s ns k p e h =
     }
 
 line-read : (d : Draft) (l : Line) (e : Draft) → readLine d l ≡ yes e → LineRead (d .before) (d .problem) (rowOf l) (e .before) (e .problem)
-unfolding readLine rowOf
+unfolding readLine columnsAsked rowOf
 line-read d l e h =
-    let (_, h₁) = ask-yes 4 (l .ended) _ e h in
-    let (_, h₂) = ask-yes 5 (goodLength (length (l .bytes))) _ e h₁ in
-    let (ns, c, h₃) = bind-yes (columns (l .bytes)) _ e h₂ in
-    let (k, kind, h₄) = bind-yes (kindOf (d .before) ns) _ e h₃ in
-    let (p, line, h₅) = bind-yes (lineOfKind (k .found) (d .problem) (k .left)) _ e h₄ in
+    let (ns, c, h₁) = bind-yes (columnsAsked l) _ e h in
+    let (_, c₁) = ask-yes 4 (l .ended) _ ns c in
+    let (_, c₂) = ask-yes 5 (goodLength (length (l .bytes))) _ ns c₁ in
+    let (k, kind, h₂) = bind-yes (kindOf (d .before) ns) _ e h₁ in
+    let (p, line, h₃) = bind-yes (lineOfKind (k .found) (d .problem) (k .left)) _ e h₂ in
     let row : rowOf l ≡ ns = cc in
-    rw (← (yes-injective h₅), row) (kind-read (d .before) (d .problem) ns k p kind line)
+    rw (← (yes-injective h₃), row) (kind-read (d .before) (d .problem) ns k p kind line)
 
 -- ── the lines from a given one on ──
 

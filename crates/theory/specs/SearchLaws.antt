@@ -7,24 +7,30 @@ use mathlib.Core.List.{List, [], _∷_, map, List·Memᴰ·head, List·Memᴰ·t
 use Rattle.definitions.specs.Lists.{_∈_, isEmpty, any, all, keep, distinct, listOf, firstSome}
 use Rattle.definitions.specs.Words.{Atom, Literal, negate, plain, sameAtom, sameLiteral, Clause, goalAtoms}
 use Rattle.definitions.specs.Instances.{Instance, Task}
-use Rattle.definitions.specs.Search.{Entry, Trail, isTrue, isFalse, isUnset, Logged, clauseOf, State, Act, conflict, force, notFalse, actOn, isGoal, goalAct, loggedAct, nextAct, fires, nextInstance, loggedOf, enter, enterTaken, nextGoal}
+use Rattle.definitions.specs.Search.{Why, decided, flipped, forced, Entry, Trail, isTrue, isFalse, isUnset, Logged, clauseOf, State, Act, conflict, force, notFalse, actOn, isGoal, goalAct, loggedAct, nextAct, fires, nextInstance, loggedOf, enter, enterTaken, nextGoal}
 use Rattle.theory.specs.Tests.{by-test, by-option, apart, true-and-false, not-true, and-left, and-right, or-cases}
 use Rattle.theory.specs.ListLaws.{First, firstOf-first, firstOf-in, firstOf-passes, firstOf-none, any-some, any-of, all-each, all-of, keep-of, keep-in, keep-none, firstSome-in, firstSome-none, distinct-in, distinct-of}
 use Rattle.theory.specs.WordLaws.{sameAtom-eq, sameAtom-refl, sameLiteral-eq, sameLiteral-refl, eq-sameLiteral, negate-negate, same-or-negated}
 
 -- ── literals on the trail ──
 
+-- a literal was set for one of three reasons; each case has the equation
+pub by-why : (w : Why) {C : Type 0} → (w ≡ decided → C) → (w ≡ flipped → C) → (w ≡ forced → C) → C
+by-why decided d f g = d refl
+by-why flipped d f g = f refl
+by-why forced d f g = g refl
+
 -- where a true literal stands
-pub record At (t : Trail) (l : Literal) : Type 0 where
+pub record TrueAt (t : Trail) (l : Literal) : Type 0 where
   pub entry : Entry
   pub inside : entry ∈ t
   pub its : entry .literal ≡ l
 
-pub true-at : (t : Trail) (l : Literal) → isTrue t l ≡ true → At t l
+pub true-at : (t : Trail) (l : Literal) → isTrue t l ≡ true → TrueAt t l
 unfolding isTrue
 true-at t l h = let (e, m, q) = any-some _ t h in record { entry = e; inside = m; its = sym (sameLiteral-eq l (e .literal) q) }
 
-pub at-true : (t : Trail) (l : Literal) → At t l → isTrue t l ≡ true
+pub at-true : (t : Trail) (l : Literal) → TrueAt t l → isTrue t l ≡ true
 unfolding isTrue
 at-true t l a = any-of _ t (a .entry) (a .inside) (rw (a .its) (sameLiteral-refl l))
 
@@ -171,17 +177,17 @@ module _ (t : Trail) where
       cases (l ∷ m ∷ ls) q h = apart (cc)
 
   -- a unit: the literal is unset, it stands in the clause, every other one is false, and the clause may set it
-  pub record Unit (may : Literal → Bool) (c : Clause) (l : Literal) : Type 0 where
+  pub record IsUnit (may : Literal → Bool) (c : Clause) (l : Literal) : Type 0 where
     pub inside : l ∈ c
     pub unset : isUnset t l ≡ true
     pub allowed : may l ≡ true
     pub alone : Alone c l
 
-  pub force-unit : (may : Literal → Bool) (c : Clause) (l : Literal) → actOn t may (notFalse t c) ≡ some (force l) → Unit may c l
+  pub force-unit : (may : Literal → Bool) (c : Clause) (l : Literal) → actOn t may (notFalse t c) ≡ some (force l) → IsUnit may c l
   unfolding actOn
   force-unit may c l e = cases (notFalse t c) refl e
     where
-      cases : (ls : Clause) → notFalse t c ≡ ls → actOn t may ls ≡ some (force l) → Unit may c l
+      cases : (ls : Clause) → notFalse t c ≡ ls → actOn t may ls ≡ some (force l) → IsUnit may c l
       cases [] q h = apart (cc)
       cases (x ∷ []) q h =
           by-test (isUnset t x && may x)
@@ -202,7 +208,7 @@ module _ (t : Trail) where
   unfolding actOn
   false-conflict may c h = cc (left-none c h)
 
-  pub unit-force : (may : Literal → Bool) (c : Clause) (l : Literal) → Unit may c l → actOn t may (notFalse t c) ≡ some (force l)
+  pub unit-force : (may : Literal → Bool) (c : Clause) (l : Literal) → IsUnit may c l → actOn t may (notFalse t c) ≡ some (force l)
   unfolding actOn
   unit-force may c l u = cc (left-one c l (u .inside) (unset-not-false t l (u .unset)) (u .alone), u .unset, u .allowed)
 

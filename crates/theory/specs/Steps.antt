@@ -98,20 +98,20 @@ abbrev pub Falls : (State → Type 0) → (State → ℕ) → State → Outcome 
 Falls Inv size s (more s′) = Inv s′ × (size s′ < size s)
 Falls Inv size s (done v s′) = Unit {0}
 
-pub record Ended (o : Outcome) : Type 0 where
+pub record IsDone (o : Outcome) : Type 0 where
   pub verdict : Verdict
   pub state : State
   pub is : o ≡ done verdict state
 
 module _ (k : Task) (budget : ℕ) (Inv : State → Type 0) (size : State → ℕ) where
   pub run-ends : ((s : State) → Inv s → (o : Outcome) → Step k budget s o → Falls Inv size s o)
-      → (n : ℕ) (s : State) → Inv s → size s < n → Ended (run k budget n s)
+      → (n : ℕ) (s : State) → Inv s → size s < n → IsDone (run k budget n s)
   unfolding run
   run-ends falls zero s v h = absurd (omega arith)
   run-ends falls (suc n) s v h =
       on (step k budget s) (falls s v (step k budget s) (kind k budget s)) (λ s′ w l. run-ends falls n s′ w l)
     where
-      on : (o : Outcome) → Falls Inv size s o → ((s′ : State) → Inv s′ → size s′ < n → Ended (run k budget n s′))
-          → Ended (elim o [ more s′ ↦ run k budget n s′ | done v s′ ↦ done v s′ ])
+      on : (o : Outcome) → Falls Inv size s o → ((s′ : State) → Inv s′ → size s′ < n → IsDone (run k budget n s′))
+          → IsDone (elim o [ more s′ ↦ run k budget n s′ | done v s′ ↦ done v s′ ])
       on (more s′) d rec = rec s′ (d .0) (omega (arith, d .1))
       on (done u s′) d rec = record { verdict = u; state = s′; is = refl }

@@ -1,5 +1,5 @@
--- The theorems about the search of an accepted sheet, at every budget, in the order of document 01. Demand 3 stands in
--- `Larger`, for problems, and in `Demand3`, for calls. Assumes nothing.
+-- The theorems about the search of an accepted sheet, at every budget, in the order of document 01. What a call comes to stands in
+-- `CallLaws`; demand 3 in `Larger`, for problems, and in `Demand3`, for calls. Assumes nothing.
 use Prim.Native.Nat.{ℕ, suc, _^_, _≤_, _<_}
 use mathlib.Core.Path.{_≡_, refl}
 use mathlib.Core.List.{List}
@@ -19,7 +19,7 @@ use Rattle.definitions.specs.declared.Verdict.{Verdict}
 use Rattle.definitions.specs.declared.Verdict.the-variants.{Unsat, Unknown, Spent, Full}
 use Rattle.theory.specs.Tests.{by-test, apart}
 use Rattle.theory.specs.ListLaws.{Different}
-use Rattle.theory.specs.Steps.{Ended}
+use Rattle.theory.specs.Steps.{IsDone}
 use Rattle.theory.specs.Ends.{search-ends}
 use Rattle.theory.specs.Counts.{decisions-within-budget, conflicts-at-most-decisions-plus-1, spent-only-when, full-only-when, limits-kept, no-instance-logged-twice}
 use Rattle.theory.specs.Choices.{unsat-means}
@@ -34,7 +34,7 @@ module _ (sheet : List ℕ) (p : Problem) (reads : read sheet ≡ accepted p) (b
   goals = omega (arith, accepted-limits sheet p reads .goals)
 
   -- it ends: the search comes to one of the four answers, within its steps
-  pub search-comes-to-an-answer : Ended (search p budget)
+  pub search-comes-to-an-answer : IsDone (search p budget)
   unfolding search
   search-comes-to-an-answer = search-ends (taskOf p) budget goals
 
@@ -89,7 +89,7 @@ pub call-comes-to-an-end : (sheet : List ℕ) (budget : ℕ) (room : List ℕ) �
 unfolding result answered searched
 call-comes-to-an-end sheet budget room e = by-test (leb 45056 (length room)) (λ t. from-reading (read sheet) refl (cc)) (λ t. apart (cc))
   where
-    from-outcome : (o : Outcome) → Ended o → searched o ≡ unended → ⊥
+    from-outcome : (o : Outcome) → IsDone o → searched o ≡ unended → ⊥
     from-outcome o d h = let q = d .is in apart (cc)
 
     from-reading : (r : Reading) → read sheet ≡ r → answered r budget ≡ unended → ⊥

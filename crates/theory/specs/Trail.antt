@@ -12,7 +12,7 @@ use Rattle.definitions.specs.Search.{Why, decided, flipped, forced, Entry, Trai
 use Rattle.theory.specs.Tests.{apart, true-and-false, or-cases}
 use Rattle.theory.specs.ListLaws.{at-split, in-along, all-each}
 use Rattle.theory.specs.WordLaws.{negate-negate, negate-atom, goal-of}
-use Rattle.theory.specs.SearchLaws.{true-at, unset-not-false, unset-negate, clause-cases, conflict-false, Unit, force-unit, Alone, isGoal-in, mayLogged, act-from, goal-first}
+use Rattle.theory.specs.SearchLaws.{true-at, unset-not-false, unset-negate, clause-cases, conflict-false, IsUnit, force-unit, Alone, isGoal-in, mayLogged, act-from, goal-first}
 
 -- candidates for an answer: the literals that each has, what it is that rules one out, and the logged clauses that it has
 -- to obey. One that is ruled out has every literal, so that nothing need be shown of it
@@ -152,7 +152,7 @@ module _ (k : Task) (W : World) where
             ]))
           ]
 
-      goal-act : (c : Clause) → c ∈ k .clauses → (l : Literal) → Unit t (isGoal k) c l → UnitOk t l
+      goal-act : (c : Clause) → c ∈ k .clauses → (l : Literal) → IsUnit t (isGoal k) c l → UnitOk t l
       goal-act c i l u =
           let g = goal-of (k .clauses) c l i (u .inside) in
           record { unset = u .unset; must = alone-must c (laws .goals c i) l (u .alone) g; source = inl g }
@@ -166,7 +166,7 @@ module _ (k : Task) (W : World) where
             | inr e ↦ e
           ]
 
-      logged-act : (g : Logged) → W .obeyed g → LogOk k g → (l : Literal) → Unit t (mayLogged k t g) (clauseOf g) l → UnitOk t l
+      logged-act : (g : Logged) → W .obeyed g → LogOk k g → (l : Literal) → IsUnit t (mayLogged k t g) (clauseOf g) l → UnitOk t l
       logged-act g obeyed ok l u =
           elim (or-cases (isGoal k l) (all (isTrue t) (g .instance .heads)) (u .allowed)) [
             | inl w ↦ let a = isGoal-in k l w in record { unset = u .unset; must = alone-must (clauseOf g) (laws .logged g obeyed) l (u .alone) a; source = inl a }
@@ -216,16 +216,16 @@ module _ (k : Task) (W : World) where
     pub backtrack-ok : {t : Trail} → Ok t → Never t → BacktrackOk (backtrack t)
     unfolding backtrack
     backtrack-ok bare n = λ x. n x (λ e m w. absurd (List·Memᴰ·not-nil m))
-    backtrack-ok (next {e = e} {t = t} u r o) n = by-why (λ (h : Never t). backtrack-ok o h) (e .why) refl r
+    backtrack-ok (next {e = e} {t = t} u r o) n = from-why (λ (h : Never t). backtrack-ok o h) (e .why) refl r
       where
-        by-why : (Never t → BacktrackOk (backtrack t)) → (w : Why) → e .why ≡ w → Decision k t e ⊎ Consequence t e
+        from-why : (Never t → BacktrackOk (backtrack t)) → (w : Why) → e .why ≡ w → Decision k t e ⊎ Consequence t e
             → BacktrackOk (elim w [ decided ↦ some (record { literal = negate (e .literal); why = flipped } ∷ t) | flipped ↦ backtrack t | forced ↦ backtrack t ])
-        by-why rec decided w (inl d) = flip-ok e t d u o n
-        by-why rec decided w (inr c) = absurd (c .isnt w)
-        by-why rec flipped w (inl d) = let q = d .is in apart (cc)
-        by-why rec flipped w (inr c) = rec (never-before e t (c .isnt) n)
-        by-why rec forced w (inl d) = let q = d .is in apart (cc)
-        by-why rec forced w (inr c) = rec (never-before e t (c .isnt) n)
+        from-why rec decided w (inl d) = flip-ok e t d u o n
+        from-why rec decided w (inr c) = absurd (c .isnt w)
+        from-why rec flipped w (inl d) = let q = d .is in apart (cc)
+        from-why rec flipped w (inr c) = rec (never-before e t (c .isnt) n)
+        from-why rec forced w (inl d) = let q = d .is in apart (cc)
+        from-why rec forced w (inr c) = rec (never-before e t (c .isnt) n)
 
   -- ── the entries that steps A and C add ──
 

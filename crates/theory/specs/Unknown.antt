@@ -185,5 +185,6 @@ module _ (k : Task) where
     first-choice =
         record { set = goals-set k s c; neither = fails-in-neither; earlier = earlier-fails; sound = true-closure (s .trail) o; complete = closure-true }
 
+  -- UNKNOWN: the setting is the first choice that does neither, and what is true is its closure
   pub unknown-means : (budget : ℕ) (s : State) → searchTask k budget ≡ done Unknown s → FirstChoice k (s .trail)
   unknown-means budget s e = let (inv, (a, b, c)) = search-tells k budget Unknown s e in first-choice s (inv .trailed) a b c

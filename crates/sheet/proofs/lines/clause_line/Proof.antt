@@ -8,7 +8,7 @@ use lib.ListN.{length, getD, take, length-take}
 use Rattle.definitions.specs.Questions.{within}
 use Rattle.encoding.specs.Signs.{numberOf}
 use Rattle.sheet.specs.LineReads.{moreClauses}
-use Rattle.sheet.proofs.ClauseLines.{clause-refused, literals-missing, literals-out, clauses-full, ClauseCount, clause-few, clause-unread, clause-over, clause-slots, clause-many, clause-read}
+use Rattle.sheet.proofs.ClauseLines.{clause-refused, literals-missing, literals-out, clauses-full, ClauseCounted, clause-few, clause-unread, clause-over, clause-slots, clause-many, clause-read}
 use borrow.Author.Needs.{needs}
 use borrow.Author.Tests.{not-true, not-false}
 use Rattle.sheet.proofs.lines.clause_line.Statement.{statement}
@@ -45,7 +45,7 @@ abbrev start : tie.After-wide → tie.Start
 start c = entry (c .before .before .before)
 
 -- the count is tested, and there is room for a clause
-counted : (c : tie.After-wide) → ClauseCount (start c .args .n) (start c .args .row .now) (start c .args .s) (c .wide .result)
+counted : (c : tie.After-wide) → ClauseCounted (start c .args .n) (start c .args .row .now) (start c .args .s) (c .wide .result)
 counted c =
     record {
       fits = omega arith;
@@ -68,7 +68,7 @@ slots-room c = omega arith
 read-slots-requires : tie.Need-read-slots-requires
 read-slots-requires c κs =
     let ready = start (c .before) .pre .2 in
-    (ready .constants, ready .symbols, ready .arity, omega arith, omega arith, omega arith, clause-few (counted (c .before)))
+    (ready .constants, ready .symbols, ready .arity, omega arith, omega arith, clause-few (counted (c .before)))
 
 returns-4 : tie.Need-returns-4
 returns-4 c =

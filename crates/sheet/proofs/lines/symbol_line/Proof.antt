@@ -1,8 +1,8 @@
 -- `sheet::lines::symbol_line` meets its contract, return by return. Assumes nothing.
 use mathlib.Core.Path.{sym, _∙_}
 use native.Mathlib.Omega.{arith}
+use Rattle.theory.specs.Limits.{within-between}
 use Rattle.encoding.specs.Signs.{numberOf}
-use Rattle.sheet.specs.RowLaws.{within-high}
 use Rattle.sheet.specs.LineReads.{moreSymbols}
 use Rattle.sheet.proofs.CountLines.{symbol-refused, arity-missing, arity-out, symbols-full, arity-over, symbol-read}
 use borrow.Author.Needs.{needs}
@@ -40,7 +40,7 @@ cast-arities : tie.Need-cast-arities
 unfolding numberOf
 cast-arities c =
     let tested = c .before .before .before .before in
-    omega (arith, within-high 0 3 _ (sym (tested .before .in-range .ensures) ∙ not-false _ (tested .if2 .left)))
+    omega (arith, within-between 0 3 _ (sym (tested .before .in-range .ensures) ∙ not-false _ (tested .if2 .left)))
 
 element-write-arities : tie.Need-element-write-arities
 element-write-arities c = search needs
