@@ -5,13 +5,14 @@ use mathlib.Core.Logic.{inl, inr}
 use mathlib.Core.Bool.{true, false}
 use mathlib.Core.List.{List, [], _∷_, List·Memᴰ·head, List·Memᴰ·tail, List·Memᴰ·cases-cons, List·Memᴰ·not-nil, Memᴰ·cast}
 use native.Mathlib.Omega.{arith}
-use lib.ListN.{length, getD, set, replicate, length-set, length-replicate}
+use lib.ListN.{length, getD, set, length-set, length-replicate}
 use lib.Seq.{ext-getD, getD-set-same, getD-set-other}
 use Rattle.definitions.specs.Lists.{_∈_}
 use Rattle.definitions.specs.Words.{Atom, sameAtom}
 use Rattle.theory.specs.Tests.{by-test, true-and-false}
 use Rattle.theory.specs.ListLaws.{Different}
 use Rattle.theory.specs.WordLaws.{atom-ext, sameAtom-eq, sameAtom-refl}
+use Rattle.encoding.specs.ArrayLaws.{getD-zeros, getD-each, getD-set-each}
 use Rattle.encoding.specs.Encoding.{place, atomCode, position, indexFrom, emptyIndex}
 
 -- ── codes ──
@@ -28,12 +29,6 @@ pub record AtomLimits (constants : ℕ) (arities : List ℕ) (a : Atom) : Type 0
   pub declared : a .symbol ≤ length arities
   pub args : length (a .args) ≡ getD arities (a .symbol - 1) 0
   pub inRange : (c : ℕ) → c ∈ a .args → (1 ≤ c) × (c ≤ constants)
-
--- what holds of the default and of every element holds at every place
-getD-each : {A : Type 0} (P : A → Type 0) (l : List A) (i : ℕ) (d : A) → P d → ((x : A) → x ∈ l → P x) → P (getD l i d)
-getD-each P [] i d h g = h
-getD-each P (x ∷ l) zero d h g = g x (List·Memᴰ·head refl)
-getD-each P (x ∷ l) (suc i) d h g = getD-each P l i d h (λ y m. g y (List·Memᴰ·tail m))
 
 -- four digits of base 32, the first of them unbounded
 digits-injective :
@@ -93,11 +88,7 @@ unfolding position
 position-later b bs a e = cc
 
 pub set-bounded : (l : List ℕ) (i v bound : ℕ) → ((k : ℕ) → getD l k 0 ≤ bound) → v ≤ bound → (k : ℕ) → getD (set l i v) k 0 ≤ bound
-set-bounded [] i v bound h g k = h k
-set-bounded (x ∷ l) zero v bound h g zero = g
-set-bounded (x ∷ l) zero v bound h g (suc k) = h (suc k)
-set-bounded (x ∷ l) (suc i) v bound h g zero = h zero
-set-bounded (x ∷ l) (suc i) v bound h g (suc k) = set-bounded l i v bound (λ j. h (suc j)) g k
+set-bounded l i v bound h g k = getD-set-each (λ n. n ≤ bound) l i v k g (h k)
 
 index-bounded : (n : ℕ) (gs : List Atom) (index : List ℕ) → ((k : ℕ) → getD index k 0 ≤ n) → (k : ℕ) → getD (indexFrom n gs index) k 0 ≤ n + length gs
 unfolding indexFrom
@@ -105,14 +96,9 @@ index-bounded n [] index h k = omega (arith, h k)
 index-bounded n (g ∷ gs) index h k =
     omega (arith, index-bounded (suc n) gs (set index (atomCode g) (suc n)) (set-bounded index (atomCode g) (suc n) (suc n) (λ j. omega (arith, h j)) (omega arith)) k)
 
-zeros-at : (n k : ℕ) → _≡_ {A = ℕ} (getD (replicate n 0) k 0) 0
-zeros-at zero k = refl
-zeros-at (suc n) zero = refl
-zeros-at (suc n) (suc k) = zeros-at n k
-
-empty-at : (k : ℕ) → getD emptyIndex k 0 ≡ 0
+pub empty-at : (k : ℕ) → getD emptyIndex k 0 ≡ 0
 unfolding emptyIndex
-empty-at k = zeros-at 524288 k
+empty-at k = getD-zeros 524288 k
 
 empty-size : length emptyIndex ≡ 524288
 unfolding emptyIndex

@@ -1,17 +1,17 @@
 -- The limits by which the arrays hold a problem, and how long the parts are that they hold. Assumes nothing.
-use Prim.Native.Nat.{ℕ, _+_, _*_}
+use Prim.Native.Nat.{ℕ, _+_, _*_, _<_}
 use mathlib.Core.Path.{_≡_, refl, subst}
 use mathlib.Core.List.{List, [], _∷_, _++_, map}
 use native.Mathlib.Omega.{arith}
 use lib.ListN.{length, replicate, length-append, length-map}
 use lib.Seq.{length-take-le}
 use Rattle.definitions.specs.Lists.{_∈_, joined}
-use Rattle.definitions.specs.Words.{Atom, Literal, Clause, Rule, Problem, goalAtoms}
+use Rattle.definitions.specs.Words.{Atom, Literal, plain, Clause, Rule, Problem, goalAtoms}
 use Rattle.theory.specs.WordLaws.{goal-from}
 use Rattle.theory.specs.Limits.{LiteralLimits, Limits, Searchable, limits-searchable}
 use Rattle.encoding.specs.Slots.{slotWords, ruleWords}
-use Rattle.encoding.specs.Encoding.{literalWord, clauseWords, startsFrom}
-use Rattle.encoding.specs.CodeLaws.{CodeLimits, AtomLimits}
+use Rattle.encoding.specs.Encoding.{literalWord, clauseWords, startsFrom, atomCode}
+use Rattle.encoding.specs.CodeLaws.{CodeLimits, AtomLimits, code-small}
 
 -- the limits by which the arrays hold a problem's clauses
 pub record Encodable (p : Problem) : Type 0 where
@@ -30,6 +30,15 @@ limits-encodable p h = searchable-encodable p (limits-searchable p h)
 
 pub literal-atom : (p : Problem) (l : Literal) → LiteralLimits p l → AtomLimits (p .constants) (p .arities) (l .atom)
 literal-atom p l h = record { symbol = h .symbol; declared = h .declared; args = h .args; inRange = h .inRange }
+
+pub plain-limits : (p : Problem) (a : Atom) → LiteralLimits p (plain a) → AtomLimits (p .constants) (p .arities) a
+unfolding plain
+plain-limits p a h = literal-atom p (plain a) h
+
+-- the codes of a table are codes of the problem
+pub codes-limited : (p : Problem) → Searchable p → (table : List Atom) → ((a : Atom) → a ∈ table → LiteralLimits p (plain a))
+    → (a : Atom) → a ∈ table → atomCode a < 524288
+codes-limited p h table limited a m = code-small (p .constants) (p .arities) (searchable-encodable p h .codes) a (plain-limits p a (limited a m))
 
 pub goal-limits : (p : Problem) → Encodable p → (a : Atom) → a ∈ goalAtoms (p .clauses) → AtomLimits (p .constants) (p .arities) a
 goal-limits p h a m =

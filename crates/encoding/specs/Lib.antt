@@ -1,3 +1,5 @@
+pub mod CountLaws
+pub mod ArrayLaws
 pub mod Signs
 pub mod Slots
 pub mod SlotLaws
@@ -7,3 +9,4 @@ pub mod PositionLaws
 pub mod HoldLaws
 pub mod Values
 pub mod Standing
+pub mod TruthLaws

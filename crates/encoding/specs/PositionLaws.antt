@@ -1,18 +1,22 @@
 -- Where atoms stand in the table: below its length, each at a position of its own, and atoms that enter behind change none, so the
 -- words of clauses stay. Assumes nothing.
-use Prim.Native.Nat.{suc, _<_}
+use Prim.Native.Nat.{ℕ, zero, suc, _<_}
 use mathlib.Core.Path.{_≡_, refl, sym, _∙_, ap}
 use mathlib.Core.Logic.{inl, inr}
-use mathlib.Core.Bool.{false, not}
-use mathlib.Core.List.{List, [], _∷_, _++_, List·Memᴰ·head, List·Memᴰ·tail, List·Memᴰ·cases-cons, List·Memᴰ·not-nil}
+use mathlib.Core.Bool.{true, false, not}
+use mathlib.Core.Option.{some}
+use mathlib.Core.List.{List, [], _∷_, _++_, map, List·Memᴰ·head, List·Memᴰ·tail, List·Memᴰ·cases-cons, List·Memᴰ·not-nil, Memᴰ·cast}
 use native.Mathlib.Omega.{arith}
-use lib.ListN.{length}
+use lib.ListN.{length, getD, take, getElem?}
 use Rattle.definitions.specs.Lists.{_∈_, joined}
 use Rattle.definitions.specs.Words.{Atom, Literal, sameAtom, Clause}
-use Rattle.theory.specs.Tests.{by-test, true-and-false}
+use Rattle.theory.specs.Tests.{by-test, true-and-false, none≢some, some-injective}
+use Rattle.theory.specs.ListLaws.{Different}
+use Rattle.theory.specs.PlaceLaws.{getElem-in}
 use Rattle.theory.specs.WordLaws.{sameAtom-eq, sameAtom-refl}
 use Rattle.encoding.specs.Signs.{wordOf}
-use Rattle.encoding.specs.Encoding.{position, literalWord, clauseWords}
+use Rattle.encoding.specs.ArrayLaws.{front-at}
+use Rattle.encoding.specs.Encoding.{atomCode, position, literalWord, clauseWords}
 
 pub apart-atoms : {a b : Atom} → sameAtom b a ≡ false → b ≡ a → ⊥
 apart-atoms {a} {b} h q = true-and-false (rw q (sameAtom-refl a)) h
@@ -41,6 +45,29 @@ position-injective (c ∷ cs) a b m n q =
     (λ e. by-test (sameAtom c b)
     (λ f. let z : suc (position cs a) ≡ 0 = rw (e, f, position) at q in let y : ⊥ = omega arith in absurd y)
     (λ f. let z : suc (position cs a) ≡ suc (position cs b) = rw (e, f, position) at q in position-injective cs a b (later e m) (later f n) (omega arith)))
+
+-- an atom of a table of different atoms stands at its position and nowhere else
+pub position-at : (table : List Atom) → Different table → (i : ℕ) (a : Atom) → getElem? table i ≡ some a → position table a ≡ i
+unfolding position
+position-at [] d i a e = none≢some e
+position-at (b ∷ bs) d zero a e = let q : b ≡ a = some-injective e in let same : sameAtom b a ≡ true = rw q (sameAtom-refl a) in cc
+position-at (b ∷ bs) d (suc i) a e =
+    by-test (sameAtom b a)
+    (λ q. absurd (d .0 (Memᴰ·cast (sameAtom-eq b a q) (getElem-in bs i a e .1))))
+    (λ q. cc (position-at bs (d .1) i a e))
+
+pub at-position : (table : List Atom) (a : Atom) → a ∈ table → getElem? table (position table a) ≡ some a
+unfolding position
+at-position [] a m = absurd (List·Memᴰ·not-nil m)
+at-position (b ∷ bs) a m =
+    by-test (sameAtom b a)
+    (λ e. rw (e, position) (ap some (sameAtom-eq b a e)))
+    (λ e. rw (e, position) (at-position bs a (later e m)))
+
+-- the codes of a table stand at the front of an array, each at its atom's position
+pub code-at : (table : List Atom) (codes : List ℕ) → take (length table) codes ≡ map atomCode table
+    → (a : Atom) → a ∈ table → getD codes (position table a) 0 ≡ atomCode a
+code-at table codes h a m = front-at atomCode table codes h (position table a) a 0 (at-position table a m)
 
 -- a table that grows keeps the positions
 pub position-append : (table more : List Atom) (a : Atom) → a ∈ table → position (table ++ more) a ≡ position table a

@@ -1,12 +1,11 @@
 -- A signed number as a word: twice its size, and 1 more where it is negative. Assumes nothing.
-use Prim.Native.Nat.{ℕ, _+_, _*_, _/_, _%_}
+use Prim.Native.Nat.{ℕ, suc, _+_, _-_, _*_, _/_, _%_}
 use mathlib.Core.Path.{_≡_}
 use mathlib.Core.Bool.{Bool, true, false}
 use native.Mathlib.Omega.{arith}
 use lib.Dec.{eqb}
-use borrow.Author.Tests.{eq-eqb, ne-eqb, eqb-true, eqb-false}
+use borrow.Author.Tests.{eq-eqb, ne-eqb}
 use Rattle.definitions.specs.Sheet.{Number}
-use Rattle.theory.specs.Tests.{by-test}
 
 unfoldable pub wordOf : Bool → ℕ → ℕ
 wordOf negative size = elim negative [ true ↦ 2 * size + 1 | false ↦ 2 * size ]
@@ -23,9 +22,15 @@ number-word false size =
     let e : (2 * size) / 2 ≡ size = omega arith in
     cc (ne-eqb ((2 * size) % 2) 1 (λ h. omega arith))
 
-pub word-number : (w : ℕ) → wordOf (numberOf w .negative) (numberOf w .size) ≡ w
-unfolding wordOf numberOf
-word-number w =
-    by-test (eqb (w % 2) 1)
-    (λ t. rw t (omega (arith, eqb-true (w % 2) 1 t)))
-    (λ t. rw t (omega (arith, eqb-false (w % 2) 1 t)))
+-- ── words ──
+
+pub wordOf-half : (negative : Bool) (size : ℕ) → wordOf negative size / 2 ≡ size
+unfolding wordOf
+wordOf-half true size = omega arith
+wordOf-half false size = omega arith
+
+-- a literal's word by the place of its atom and the sign of another word
+pub same-sign : (negative : Bool) (symbol place : ℕ) → 2 * (suc place - 1) + wordOf negative symbol % 2 ≡ wordOf negative place
+unfolding wordOf
+same-sign true symbol place = omega arith
+same-sign false symbol place = omega arith

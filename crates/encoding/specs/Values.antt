@@ -10,5 +10,5 @@ unfoldable pub opposite : ℕ → ℕ
 opposite v = elim (eqb v 1) [ true ↦ 2 | false ↦ elim (eqb v 2) [ true ↦ 1 | false ↦ 0 ] ]
 
 -- the value of a literal, by its word
-unfoldable pub valueOf : List ℕ → ℕ → ℕ
-valueOf values w = elim (eqb (w % 2) 0) [ true ↦ getD values (w / 2) 0 | false ↦ opposite (getD values (w / 2) 0) ]
+unfoldable pub literalValue : List ℕ → ℕ → ℕ
+literalValue values w = elim (eqb (w % 2) 0) [ true ↦ getD values (w / 2) 0 | false ↦ opposite (getD values (w / 2) 0) ]

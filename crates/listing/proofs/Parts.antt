@@ -1,13 +1,15 @@
 -- The bytes of the listing in parts: what one call puts, and what is left to the calls behind it. Assumes nothing.
-use Prim.Native.Nat.{ℕ, suc, _+_, _-_, _/_, _%_, _≤_, _<_}
+use Prim.Native.Nat.{ℕ, _+_, _-_, _/_, _%_, _≤_, _<_}
 use mathlib.Core.Path.{_≡_, refl, sym, ap, _∙_}
 use mathlib.Core.Bool.{Bool, true, false, false≢true}
 use mathlib.Core.List.{List, [], _∷_, _++_, map, append-assoc, map-append}
 use native.Mathlib.Omega.{arith}
 use lib.Dec.{eqb}
 use lib.ListN.{length, getD, take, drop, length-drop}
-use lib.Seq.{drop-cons, length-take-le}
+use lib.Seq.{length-take-le}
 use borrow.Author.Tests.{ne-eqb}
+use Rattle.encoding.specs.ArrayLaws.{getD-rising, part-cons, part-nil}
+use Rattle.encoding.specs.CountLaws.{upFrom-more, upFrom-none}
 use Rattle.definitions.specs.Lists.{joined, upFrom}
 use Rattle.definitions.specs.Sheet.{Number, plus}
 use Rattle.definitions.specs.Listing.{fieldBytes, lineBytes, narrow, wide, answerNumber}
@@ -15,7 +17,6 @@ use Rattle.definitions.specs.declared.Verdict.{Verdict}
 use Rattle.definitions.specs.declared.Verdict.the-variants.{Unsat, Unknown, Spent, Full}
 use Rattle.theory.specs.ListLaws.{joined-append}
 use Rattle.units.specs.Units.{clauseAt}
-use Rattle.log.specs.StoreLaws.{starts-rise}
 use Rattle.search.specs.declared.Run.{Run}
 use Rattle.listing.specs.Puts.{Parts}
 use Rattle.listing.specs.Lines.{columnBytes, rowBytes, codeSymbol, codeConstant, constantNumber, codeNumbers, wordNumbers, loggedNumbers, loggedBytes, logBytes, settingBytes, settingsBytes, countBytes, listingBytes, ClausesListable}
@@ -46,9 +47,9 @@ module _ {size n : ℕ} (e : size ≡ n) (ns : List Number) where
   unfolding rowBytes lineBytes columnBytes
   row-first = columns-first (10 ∷ [])
 
-pub row-end : (ns : List Number) → Parts (rowBytes ns) (columnBytes ns) (10 ∷ [])
+pub row-parts : (ns : List Number) → Parts (rowBytes ns) (columnBytes ns) (10 ∷ [])
 unfolding rowBytes lineBytes columnBytes
-row-end ns = record { whole = refl }
+row-parts ns = record { whole = refl }
 
 -- ── the line of kind 5 ──
 
@@ -70,18 +71,6 @@ counts-wide first more = record { whole = refl }
 
 -- ── what a loop puts: its first turn, and the turns behind it ──
 
-module _ (n i : ℕ) where
-  up-first : i < n → upFrom i (n - i) ≡ i ∷ upFrom (i + 1) (n - (i + 1))
-  unfolding upFrom
-  up-first h =
-      let size : n - i ≡ suc (n - (i + 1)) = omega arith in
-      let next : i + 1 ≡ suc i = omega arith in
-      rw (size, next)
-
-  up-end : n ≤ i → upFrom i (n - i) ≡ []
-  unfolding upFrom
-  up-end h = let size : n - i ≡ 0 = omega arith in rw size
-
 -- the constants of an atom from the i-th on
 module _ (code arity i : ℕ) where
   pub constants-first : {constant : ℕ} → i < arity → constant ≡ codeConstant code i
@@ -90,11 +79,11 @@ module _ (code arity i : ℕ) where
       (columnBytes (unsigned constant ∷ []))
       (columnBytes (map (constantNumber code) (upFrom (i + 1) (arity - (i + 1)))))
   unfolding constantNumber plus
-  constants-first h e = record { whole = rw (up-first arity i h, e) (column-append (constantNumber code i ∷ []) (map (constantNumber code) (upFrom (i + 1) (arity - (i + 1))))) }
+  constants-first h e = record { whole = rw (upFrom-more h, e) (column-append (constantNumber code i ∷ []) (map (constantNumber code) (upFrom (i + 1) (arity - (i + 1))))) }
 
   pub constants-none : arity ≤ i → columnBytes (map (constantNumber code) (upFrom i (arity - i))) ≡ []
   unfolding columnBytes joined
-  constants-none h = rw (up-end arity i h)
+  constants-none h = rw (upFrom-none h)
 
 -- a literal's symbol, and behind it its constants
 pub literal-first : (arities : List ℕ) (negative : Bool) (code : ℕ) {arity : ℕ} → arity ≡ getD arities (code / 32768 % 16) 0
@@ -109,11 +98,11 @@ literal-first arities negative code {arity} e = record { whole = rw (← e) (col
 module _ (f : ℕ → List ℕ) (n i : ℕ) where
   pub joined-first : i < n → Parts (joined f (upFrom i (n - i))) (f i) (joined f (upFrom (i + 1) (n - (i + 1))))
   unfolding joined
-  joined-first h = record { whole = rw (up-first n i h) }
+  joined-first h = record { whole = rw (upFrom-more h) }
 
   pub joined-none : n ≤ i → joined f (upFrom i (n - i)) ≡ []
   unfolding joined
-  joined-none h = rw (up-end n i h)
+  joined-none h = rw (upFrom-none h)
 
 -- the words of a clause from the i-th place on
 module _ (arities table words : List ℕ) (end i : ℕ) where
@@ -124,16 +113,14 @@ module _ (arities table words : List ℕ) (end i : ℕ) where
       (columnBytes (joined (wordNumbers arities table) (take (end - (i + 1)) (drop (i + 1) words))))
   unfolding joined wordNumbers
   words-first h fits =
-      let size : end - i ≡ suc (end - (i + 1)) = omega arith in
-      let next : i + 1 ≡ suc i = omega arith in
       record {
-        whole = rw (size, drop-cons words i 0 (omega arith), next)
-            (column-append (wordNumbers arities table (getD words i 0)) (joined (wordNumbers arities table) (take (end - suc i) (drop (suc i) words))));
+        whole = rw (part-cons words end i h fits)
+            (column-append (wordNumbers arities table (getD words i 0)) (joined (wordNumbers arities table) (take (end - (i + 1)) (drop (i + 1) words))));
       }
 
   pub words-none : end ≤ i → columnBytes (joined (wordNumbers arities table) (take (end - i) (drop i words))) ≡ []
   unfolding joined columnBytes
-  words-none h = let size : end - i ≡ 0 = omega arith in rw size
+  words-none h = rw (part-nil words end i h)
 
 -- ── the lines of kind 6 ──
 
@@ -147,7 +134,7 @@ listable-first {given} {clauses} {starts} f first g h =
       limit = omega (arith, f .limit);
       rising = λ c l. f .rising c (omega arith);
       inside = λ c l. f .inside c (omega arith);
-      words = λ i l. f .words i (omega (arith, starts-rise starts clauses (f .rising) first h));
+      words = λ i l. f .words i (omega (arith, getD-rising starts clauses (f .rising) first h));
     }
 
 module _ (starts literals : List ℕ) (c : ℕ) where
@@ -165,7 +152,7 @@ module _ (starts literals : List ℕ) (c : ℕ) where
       (columnBytes (joined (wordNumbers arities table) (take (getD starts (c + 1) 0 - getD starts c 0) (drop (getD starts c 0) literals))))
       (10 ∷ [])
   unfolding clauseAt
-  clause-end arities table = row-end (joined (wordNumbers arities table) (take (getD starts (c + 1) 0 - getD starts c 0) (drop (getD starts c 0) literals)))
+  clause-end arities table = row-parts (joined (wordNumbers arities table) (take (getD starts (c + 1) 0 - getD starts c 0) (drop (getD starts c 0) literals)))
 
 pub logged-first : (given : ℕ) (arities starts literals numbers table : List ℕ) (n : ℕ)
     → Parts

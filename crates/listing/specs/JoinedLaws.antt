@@ -1,22 +1,12 @@
--- Lists place by place: what an array has where a list stands at its front, and what is made for each place of a list and joined.
--- Assumes nothing.
-use Prim.Native.Nat.{ℕ, zero, suc, _+_}
+-- Lists place by place: what is made for each place of a list and joined. Assumes nothing.
+use Prim.Native.Nat.{ℕ, suc, _+_}
 use mathlib.Core.Path.{_≡_, refl, sym, _∙_, ap}
 use mathlib.Core.Option.{some}
-use mathlib.Core.List.{List, [], _∷_, map, head-eq-of-cons-eq, tail-eq-of-cons-eq}
+use mathlib.Core.List.{List, [], _∷_, map}
 use native.Mathlib.Omega.{arith}
-use lib.ListN.{length, getD, take, getElem?}
+use lib.ListN.{length, getElem?}
 use Rattle.definitions.specs.Lists.{joined, upFrom}
-use Rattle.theory.specs.Tests.{apart, none≢some, some-injective}
 use Rattle.theory.specs.ListLaws.{joined-append}
-
--- a list stands at the front of an array, and each element has its word there
-pub front-at : {A B : Type 0} (f : A → B) (xs : List A) (array : List B) → take (length xs) array ≡ map f xs
-    → (i : ℕ) (x : A) (d : B) → getElem? xs i ≡ some x → getD array i d ≡ f x
-front-at f [] array h i x d e = none≢some e
-front-at f (y ∷ xs) [] h i x d e = apart (cc)
-front-at f (y ∷ xs) (w ∷ array) h zero x d e = head-eq-of-cons-eq h ∙ ap f (some-injective e)
-front-at f (y ∷ xs) (w ∷ array) h (suc i) x d e = front-at f xs array (tail-eq-of-cons-eq h) i x d e
 
 -- what is made from each place of a list is what is made from the element there
 pub map-places : {A B : Type 0} (f : ℕ → B) (g : A → B) (a : ℕ) (xs : List A) → ((i : ℕ) (x : A) → getElem? xs i ≡ some x → f (a + i) ≡ g x)

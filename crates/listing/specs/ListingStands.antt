@@ -1,55 +1,37 @@
 -- The listing made from the arrays of a search that has ended is the listing of its state: by codes the atoms, by words the logged
 -- clauses, by values the settings. Assumes nothing.
-use Prim.Native.Nat.{ℕ, zero, suc, _-_, _≤_}
+use Prim.Native.Nat.{ℕ, _-_, _≤_}
 use mathlib.Core.Path.{_≡_, refl, sym, _∙_, ap}
-use mathlib.Core.Bool.{true, not}
+use mathlib.Core.Bool.{not}
 use mathlib.Core.Option.{some}
-use mathlib.Core.List.{List, [], _∷_, _++_, map, append-nil, append-assoc, List·Memᴰ·head, List·Memᴰ·tail, Memᴰ·cast}
+use mathlib.Core.List.{List, [], _∷_, _++_, map, append-nil, append-assoc, List·Memᴰ·head, List·Memᴰ·tail}
 use native.Mathlib.Omega.{arith}
 use lib.ListN.{length, getD, getElem?, length-map}
 use Rattle.definitions.specs.Lists.{_∈_, joined, keep}
-use Rattle.definitions.specs.Words.{Atom, Literal, negate, plain, sameAtom, Clause, Problem}
+use Rattle.definitions.specs.Words.{Atom, Literal, negate, plain, Clause, Problem}
 use Rattle.definitions.specs.Instances.{taskOf}
 use Rattle.definitions.specs.Search.{isFalse, Logged, clauseOf, State}
 use Rattle.definitions.specs.Sheet.{Number, plus}
 use Rattle.definitions.specs.Listing.{fieldBytes, lineBytes, narrow, wide, answerNumber, countLine, literalNumbers, loggedLine, setLine, setLiteral, settings, listingLines, listing}
 use Rattle.definitions.specs.declared.Verdict.{Verdict}
 use Rattle.definitions.specs.declared.Verdict.the-variants.{Unsat, Unknown, Spent, Full}
-use Rattle.theory.specs.Tests.{by-test, none≢some, some-injective}
-use Rattle.theory.specs.ListLaws.{Different, joined-append}
-use Rattle.theory.specs.WordLaws.{sameAtom-eq, sameAtom-refl}
+use Rattle.theory.specs.ListLaws.{joined-append}
 use Rattle.theory.specs.Unknown.{consistent}
 use Rattle.encoding.specs.Encoding.{atomCode, position, literalWord, clauseWords}
-use Rattle.encoding.specs.PositionLaws.{position-inside, position-injective}
-use Rattle.encoding.specs.HoldLaws.{searchable-encodable}
+use Rattle.encoding.specs.PositionLaws.{position-at, code-at}
+use Rattle.encoding.specs.HoldLaws.{searchable-encodable, plain-limits}
 use Rattle.encoding.specs.Signs.{numberOf}
 use Rattle.encoding.specs.Signs.{number-word}
 use Rattle.encoding.specs.Standing.{truth}
-use Rattle.units.specs.UnitLaws.{Consistent, truth-true, truth-false, truth-unset, by-truth}
-use Rattle.log.specs.LogHolds.{plain-limits}
-use Rattle.theory.specs.PlaceLaws.{getElem-in, getElem-of}
+use Rattle.encoding.specs.TruthLaws.{truth-true, truth-false, truth-unset}
+use Rattle.encoding.specs.ArrayLaws.{front-at}
+use Rattle.units.specs.UnitLaws.{Consistent, by-truth}
+use Rattle.theory.specs.PlaceLaws.{getElem-in}
 use Rattle.search.specs.declared.Ended.{Ended}
 use Rattle.listing.specs.Lines.{rowBytes, columnBytes, codeNumbers, wordNumbers, loggedNumbers, loggedBytes, logBytes, settingBytes, settingsBytes, countBytes, listingBytes, ClausesListable}
 use Rattle.listing.specs.Finished.{Finished}
-use Rattle.listing.specs.JoinedLaws.{front-at, joined-map, joined-joined, joined-places}
+use Rattle.listing.specs.JoinedLaws.{joined-map, joined-joined, joined-places}
 use Rattle.listing.specs.CodeParts.{code-literal}
-
--- ── positions ──
-
--- an atom of a table of different atoms stands at its position and nowhere else
-position-at : (table : List Atom) → Different table → (i : ℕ) (a : Atom) → getElem? table i ≡ some a → position table a ≡ i
-unfolding position
-position-at [] d i a e = none≢some e
-position-at (b ∷ bs) d zero a e = let q : b ≡ a = some-injective e in let same : sameAtom b a ≡ true = rw q (sameAtom-refl a) in cc
-position-at (b ∷ bs) d (suc i) a e =
-    by-test (sameAtom b a)
-    (λ q. absurd (d .0 (Memᴰ·cast (sameAtom-eq b a q) (getElem-in bs i a e .1))))
-    (λ q. cc (position-at bs (d .1) i a e))
-
-at-position : (table : List Atom) → Different table → (a : Atom) → a ∈ table → getElem? table (position table a) ≡ some a
-at-position table d a m =
-    let (b, e) = getElem-of table (position table a) (position-inside table a m) in
-    e ∙ ap some (position-injective table b a (getElem-in table (position table a) b e .1) m (position-at table d (position table a) b e))
 
 -- ── the line of counts ──
 
@@ -70,15 +52,12 @@ module _ (p : Problem) (budget : ℕ) (s : State) (ended : Ended) (given : ℕ) 
   code-numbers : (l : Literal) → l .atom ∈ s .table → codeNumbers arities (not (l .positive)) (atomCode (l .atom)) ≡ literalNumbers l
   code-numbers l m = code-literal (p .constants) (p .arities) (searchable-encodable p (h .limits) .codes) arities (h .itsArities) l (plain-limits p (l .atom) (h .stands .log .limited (l .atom) m))
 
-  code-at : (i : ℕ) (a : Atom) → getElem? (s .table) i ≡ some a → getD table i 0 ≡ atomCode a
-  code-at i a e = front-at atomCode (s .table) table (h .stands .log .codes) i a 0 e
-
   word-numbers : (l : Literal) → l .atom ∈ s .table → wordNumbers arities table (literalWord (s .table) l) ≡ literalNumbers l
   unfolding wordNumbers literalWord numberOf
   word-numbers l m =
       let at = position (s .table) (l .atom) in
       let number = number-word (not (l .positive)) at in
-      let code = code-at at (l .atom) (at-position (s .table) (h .stands .log .different) (l .atom) m) in
+      let code = code-at (s .table) table (h .stands .log .codes) (l .atom) m in
       rw (ap (λ (n : Number). n .negative) number, ap (λ (n : Number). n .size) number, code) (code-numbers l m)
 
   -- ── the log ──
@@ -123,10 +102,10 @@ module _ (p : Problem) (budget : ℕ) (s : State) (ended : Ended) (given : ℕ) 
   setting-stands i a e =
       let m = getElem-in (s .table) i a e .1 in
       let value = value-at i a e in
-      let code = code-at i a e in
+      let code = front-at atomCode (s .table) table (h .stands .log .codes) i a 0 e in
       by-truth (s .trail) trail-consistent (plain a)
       (λ t u. cc (value, truth-true (s .trail) (plain a) t, code, code-numbers (plain a) m, append-nil (lineBytes (setLine (plain a)))))
-      (λ t u. cc (value, truth-false (s .trail) trail-consistent (plain a) u, code, code-numbers (negate (plain a)) m, append-nil (lineBytes (setLine (negate (plain a))))))
+      (λ t u. cc (value, truth-false (s .trail) (plain a) t u, code, code-numbers (negate (plain a)) m, append-nil (lineBytes (setLine (negate (plain a))))))
       (λ t u. cc (value, truth-unset (s .trail) (plain a) t u))
 
   settings-stand : (v : Verdict) → settingsBytes v (ended .run .atoms) arities table values ≡ joined lineBytes (map setLine (settings v s))

@@ -14,11 +14,16 @@ ghost use Rattle.listing.specs.Puts.{Put};
 ghost use Rattle.listing.specs.Lines.{columnBytes, rowBytes, codeConstant, constantNumber, codeNumbers, wordNumbers, loggedBytes, logBytes, settingBytes, settingsBytes, countBytes, listingBytes, ClausesListable};
 ghost use Rattle.listing.specs.Finished.{Finished};
 use definitions::Verdict;
+use encoding::ATOMS;
+use encoding::LITERALS;
+use encoding::LOGGED;
+use encoding::STARTS;
+use encoding::SYMBOLS;
 use search::Ended;
 use search::Run;
 
 // A byte as a wider number; through a call the proof knows that it is one.
-fn wide8(x: u8) -> u16
+fn widened(x: u8) -> u16
     ensures { λ r. ⌜ (r ≡ x) × (r < 256) ⌝ }
 {
     x as u16
@@ -80,12 +85,18 @@ fn put_constants(room: &mut [u8], at: usize, code: u32, arity: usize) -> usize
 }
 
 // A literal: its symbol, negative when negated, then its constants.
-fn put_literal(room: &mut [u8], at: usize, arities: &[u8; 16], negative: bool, code: u32) -> usize
+fn put_literal(
+    room: &mut [u8],
+    at: usize,
+    arities: &[u8; SYMBOLS],
+    negative: bool,
+    code: u32,
+) -> usize
     requires { ⌜ at + length (columnBytes (codeNumbers (now arities) negative code)) ≤ length (now room) ⌝ }
     ensures { λ r. ⌜ Put (now (room .entry)) at (columnBytes (codeNumbers (now (arities .entry)) negative code)) r (now (room .exit)) ⌝ }
 {
     let symbol = (code / 32768 % 16) as usize;
-    let arity = wide8(arities[symbol]) as usize;
+    let arity = widened(arities[symbol]) as usize;
     let behind = put_number(room, at, negative, symbol as u16 + 1);
     put_constants(room, behind, code, arity)
 }
@@ -94,9 +105,9 @@ fn put_literal(room: &mut [u8], at: usize, arities: &[u8; 16], negative: bool, c
 fn put_literals(
     room: &mut [u8],
     at: usize,
-    arities: &[u8; 16],
-    table: &[u32; 256],
-    literals: &[u16; 2568],
+    arities: &[u8; SYMBOLS],
+    table: &[u32; ATOMS],
+    literals: &[u16; LITERALS],
     from: usize,
     end: usize,
 ) -> usize
@@ -122,11 +133,11 @@ fn put_logged(
     room: &mut [u8],
     at: usize,
     given: usize,
-    arities: &[u8; 16],
-    starts: &[u16; 578],
-    literals: &[u16; 2568],
-    numbers: &[u8; 512],
-    table: &[u32; 256],
+    arities: &[u8; SYMBOLS],
+    starts: &[u16; STARTS],
+    literals: &[u16; LITERALS],
+    numbers: &[u8; LOGGED],
+    table: &[u32; ATOMS],
     n: usize,
 ) -> usize
     requires { ⌜ (n < 512) × ClausesListable given (given + n + 1) (now starts) (now literals)
@@ -138,7 +149,7 @@ fn put_logged(
     let next = c + 1;
     let from = starts[c] as usize;
     let end = starts[next] as usize;
-    let rule = wide8(numbers[n]);
+    let rule = widened(numbers[n]);
     let count = (end - from) as u16;
     let one = put_number(room, at, false, 6);
     let two = put_number(room, one, false, rule);
@@ -153,11 +164,11 @@ fn put_log(
     at: usize,
     given: usize,
     clauses: usize,
-    arities: &[u8; 16],
-    starts: &[u16; 578],
-    literals: &[u16; 2568],
-    numbers: &[u8; 512],
-    table: &[u32; 256],
+    arities: &[u8; SYMBOLS],
+    starts: &[u16; STARTS],
+    literals: &[u16; LITERALS],
+    numbers: &[u8; LOGGED],
+    table: &[u32; ATOMS],
 ) -> usize
     requires { ⌜ ClausesListable given clauses (now starts) (now literals)
         × (at + length (logBytes given clauses (now arities) (now starts) (now literals) (now numbers) (now table)) ≤ length (now room)) ⌝ }
@@ -184,7 +195,7 @@ fn put_log(
 }
 
 // The line of kind 7 of a literal.
-fn put_set(room: &mut [u8], at: usize, arities: &[u8; 16], negative: bool, code: u32) -> usize
+fn put_set(room: &mut [u8], at: usize, arities: &[u8; SYMBOLS], negative: bool, code: u32) -> usize
     requires { ⌜ at + length (rowBytes (plus 7 ∷ codeNumbers (now arities) negative code)) ≤ length (now room) ⌝ }
     ensures { λ r. ⌜ Put (now (room .entry)) at (rowBytes (plus 7 ∷ codeNumbers (now (arities .entry)) negative code)) r (now (room .exit)) ⌝ }
 {
@@ -197,9 +208,9 @@ fn put_set(room: &mut [u8], at: usize, arities: &[u8; 16], negative: bool, code:
 fn put_setting(
     room: &mut [u8],
     at: usize,
-    arities: &[u8; 16],
-    table: &[u32; 256],
-    values: &[u8; 256],
+    arities: &[u8; SYMBOLS],
+    table: &[u32; ATOMS],
+    values: &[u8; ATOMS],
     i: usize,
 ) -> usize
     requires { ⌜ (i < 256) × (at + length (settingBytes (now arities) (now table) (now values) i) ≤ length (now room)) ⌝ }
@@ -218,9 +229,9 @@ fn put_settings(
     room: &mut [u8],
     at: usize,
     atoms: usize,
-    arities: &[u8; 16],
-    table: &[u32; 256],
-    values: &[u8; 256],
+    arities: &[u8; SYMBOLS],
+    table: &[u32; ATOMS],
+    values: &[u8; ATOMS],
 ) -> usize
     requires { ⌜ (atoms ≤ 256) × (at + length (joined (settingBytes (now arities) (now table) (now values)) (upFrom 0 atoms)) ≤ length (now room)) ⌝ }
     ensures { λ r. ⌜ Put (now (room .entry)) at (joined (settingBytes (now (arities .entry)) (now (table .entry)) (now (values .entry))) (upFrom 0 atoms)) r (now (room .exit)) ⌝ }
@@ -275,9 +286,9 @@ fn put_last(
     at: usize,
     verdict: Verdict,
     atoms: usize,
-    arities: &[u8; 16],
-    table: &[u32; 256],
-    values: &[u8; 256],
+    arities: &[u8; SYMBOLS],
+    table: &[u32; ATOMS],
+    values: &[u8; ATOMS],
 ) -> usize
     requires { ⌜ (atoms ≤ 256) × (at + length (settingsBytes verdict atoms (now arities) (now table) (now values)) ≤ length (now room)) ⌝ }
     ensures { λ r. ⌜ Put (now (room .entry)) at (settingsBytes verdict atoms (now (arities .entry)) (now (table .entry)) (now (values .entry))) r (now (room .exit)) ⌝ }
@@ -297,12 +308,12 @@ fn put_lines(
     verdict: Verdict,
     run: Run,
     given: usize,
-    arities: &[u8; 16],
-    starts: &[u16; 578],
-    literals: &[u16; 2568],
-    numbers: &[u8; 512],
-    table: &[u32; 256],
-    values: &[u8; 256],
+    arities: &[u8; SYMBOLS],
+    starts: &[u16; STARTS],
+    literals: &[u16; LITERALS],
+    numbers: &[u8; LOGGED],
+    table: &[u32; ATOMS],
+    values: &[u8; ATOMS],
 ) -> usize
     requires { ⌜ (run .atoms ≤ 256) × ClausesListable given (run .clauses) (now starts) (now literals)
         × (at + length (listingBytes verdict run given (now arities) (now starts) (now literals) (now numbers) (now table) (now values)) ≤ length (now room)) ⌝ }
@@ -337,12 +348,12 @@ pub fn put_listing(
     room: &mut [u8],
     ended: Ended,
     given: usize,
-    arities: &[u8; 16],
-    starts: &[u16; 578],
-    literals: &[u16; 2568],
-    numbers: &[u8; 512],
-    table: &[u32; 256],
-    values: &[u8; 256],
+    arities: &[u8; SYMBOLS],
+    starts: &[u16; STARTS],
+    literals: &[u16; LITERALS],
+    numbers: &[u8; LOGGED],
+    table: &[u32; ATOMS],
+    values: &[u8; ATOMS],
 ) -> usize
     requires { ⌜ ((p : Problem) × (budget : ℕ) × (s : State) × Finished p budget s ended given (now arities) (now starts) (now literals) (now numbers) (now table) (now values)
         × (length (listed (ended .verdict) s) ≤ length (now room))) ⌝ }
@@ -371,7 +382,7 @@ pub fn put_refusal(room: &mut [u8], number: u8, line: u16) -> usize
     requires { ⌜ length (refusalLine number line) ≤ length (now room) ⌝ }
     ensures { λ r. ⌜ Put (now (room .entry)) 0 (refusalLine number line) r (now (room .exit)) ⌝ }
 {
-    let question = wide8(number);
+    let question = widened(number);
     let one = put_number(room, 0, false, 9);
     let two = put_number(room, one, false, question);
     let three = put_number(room, two, false, line);

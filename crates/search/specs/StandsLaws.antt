@@ -20,7 +20,7 @@ use Rattle.theory.specs.Choices.{choiceWorld, inv-act}
 use Rattle.theory.specs.Unknown.{consistent}
 use Rattle.theory.specs.Ends.{Fits, step-fits}
 use Rattle.encoding.specs.Encoding.{position, literalWord}
-use Rattle.encoding.specs.Values.{valueOf}
+use Rattle.encoding.specs.Values.{literalValue}
 use Rattle.units.specs.Units.{actFrom}
 use Rattle.encoding.specs.Standing.{truth}
 use Rattle.units.specs.ClausesStand.{actWord}
@@ -73,7 +73,7 @@ module _ (p : Problem) (budget : ℕ) (s : State) (m : Machine) (run : Run) (h :
   trail-decided = decided-true (taskOf p) (h .sound .inv .trailed)
 
   -- a literal of the table has the value of its truth, and a true literal is one of the table
-  pub literal-value : (l : Literal) → l .atom ∈ s .table → valueOf (m .values) (literalWord (s .table) l) ≡ truth (s .trail) l
+  pub literal-value : (l : Literal) → l .atom ∈ s .table → literalValue (m .values) (literalWord (s .table) l) ≡ truth (s .trail) l
   literal-value = value-truth (s .table) (s .trail) (m .values) trail-consistent (h .trail .valued)
 
   pub true-known : (l : Literal) → isTrue (s .trail) l ≡ true → l .atom ∈ s .table

@@ -1,7 +1,7 @@
 -- What the calls of a step ask for, wherever the machine stands for a state of a search. Assumes nothing.
 use Prim.Native.Nat.{ℕ, zero, suc, _+_, _≤_, _<_, _^_}
 use mathlib.Core.Path.{_≡_, refl, sym, _∙_}
-use mathlib.Core.Bool.{Bool, true}
+use mathlib.Core.Bool.{true}
 use mathlib.Core.Option.{Option, none, some}
 use mathlib.Core.List.{List}
 use native.Mathlib.Omega.{arith}
@@ -12,8 +12,9 @@ use Rattle.definitions.specs.Lists.{_∈_}
 use Rattle.definitions.specs.Words.{Atom, Literal, plain, Problem}
 use Rattle.definitions.specs.Instances.{taskOf}
 use Rattle.definitions.specs.Search.{State, Act, conflict, force, nextGoal, backtrack}
-use Rattle.theory.specs.Tests.{by-test, by-option, apart, none≢some, not-true, and-left}
+use Rattle.theory.specs.Tests.{by-option, apart, not-true, and-left}
 use Rattle.theory.specs.ListLaws.{all-each}
+use Rattle.theory.specs.Ends.{trail-length}
 use Rattle.encoding.specs.Encoding.{literalWord}
 use Rattle.encoding.specs.CodeLaws.{index-within}
 use Rattle.units.specs.Units.{actFrom, ClausesFit}
@@ -30,6 +31,7 @@ use Rattle.search.specs.StandsLaws.{room-for, act-as, unit-unset, back-n
 use Rattle.search.specs.declared.Run.{Run}
 use Rattle.units.specs.declared.Act.the-variants.{Force, Nothing}
 use Rattle.walk.specs.declared.Found.the-variants.{Instance}
+use Rattle.walk.specs.WalkLaws.{firstFrom-passes}
 
 -- a word is forced where a literal is
 force-of : (table : List Atom) (o : Option Act) (w : ℕ) → actWord table o ≡ Force w → (l : Literal) × (o ≡ some (force l)) × (w ≡ literalWord table l)
@@ -37,11 +39,6 @@ unfolding actWord
 force-of table none w e = apart (cc)
 force-of table (some conflict) w e = apart (cc)
 force-of table (some (force l)) w e = (l, refl, cc)
-
-first-passes : (test : ℕ → Bool) (f k g : ℕ) → firstFrom test f k ≡ some g → test g ≡ true
-unfolding firstFrom
-first-passes test f zero g e = none≢some e
-first-passes test f (suc k) g e = by-test (test f) (λ b. cc) (λ b. first-passes test (suc f) k g (cc))
 
 module _ (values index rules : List ℕ) (n : ℕ) where
   -- what the walk finds fires
@@ -51,7 +48,7 @@ module _ (values index rules : List ℕ) (n : ℕ) where
   walk-fires at (suc k) r f e =
       by-option (firstFrom (firesAt values index rules n at) 0 (fillingCount rules n at))
       (λ q. walk-fires (suc at) k r f (cc))
-      (λ g q. let its : at ≡ r = cc in let it : g ≡ f = cc in rw (← its, ← it) (first-passes (firesAt values index rules n at) 0 (fillingCount rules n at) g q))
+      (λ g q. let its : at ≡ r = cc in let it : g ≡ f = cc in rw (← its, ← it) (firstFrom-passes (firesAt values index rules n at) 0 (fillingCount rules n at) g q))
 
   -- so its heads are true, and their atoms are in the index
   fires-entered : (r f : ℕ) → firesAt values index rules n r f ≡ true → (b : ℕ) → b ∈ headSlots rules r
@@ -89,10 +86,10 @@ module _ (budget : ℕ) (rules : List ℕ) (m : Machine) (run : Run) (constants 
 
   -- a conflict: the trail, its words, and the counts
   pub trail-fits : run .set ≤ 256
-  trail-fits = omega (arith, h .set, Rattle.theory.specs.Ends.trail-length (h .sound .fits))
+  trail-fits = omega (arith, h .set, trail-length (h .sound .fits))
 
-  pub trail-length : length (m .trail) ≡ 256
-  trail-length = h .room .trail-size
+  pub trail-whole : length (m .trail) ≡ 256
+  trail-whole = h .room .trail-size
 
   pub words-fit : (i : ℕ) → i < run .set → getD (m .trail) i 0 < 512
   words-fit i b = words-small (h .room .table-size) (h .trail) (h .sound .fits .entered) i (omega (arith, h .set))
@@ -109,8 +106,6 @@ module _ (budget : ℕ) (rules : List ℕ) (m : Machine) (run : Run) (constants 
   -- step B
   index-small : IndexFits (m .index) 256
   index-small code = rw (h .log .index) (omega (arith, index-within (s .table) code, h .room .table-size))
-
-  -- the rule that the walk finds is one of the rules
 
   pub rules-and-index : RulesFit rules constants count × IndexFits (m .index) 256
   rules-and-index = (

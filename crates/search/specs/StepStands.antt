@@ -11,7 +11,7 @@ use borrow.Author.Tests.{ltb-true, ltb-false, eq-eqb, ne-eqb, le-leb, lt-leb}
 use Rattle.definitions.specs.Lists.{_∈_, joined}
 use Rattle.definitions.specs.Words.{Atom, Literal, plain, Problem, goalAtoms}
 use Rattle.definitions.specs.Instances.{taskOf}
-use Rattle.definitions.specs.Search.{Why, decided, forced, Trail, isTrue, isUnset, Logged, State, conflict, force, nextAct, nextInstance, loggedOf, enterTaken, nextGoal, backtrack, setUnit, logInstance, decide, afterConflict, Outcome, more, done, hasRoom, step}
+use Rattle.definitions.specs.Search.{Why, decided, forced, Trail, isUnset, Logged, State, conflict, force, nextAct, nextInstance, loggedOf, enterTaken, nextGoal, backtrack, setUnit, logInstance, decide, afterConflict, Outcome, more, done, hasRoom, step}
 use Rattle.definitions.specs.declared.Verdict.{Verdict}
 use Rattle.definitions.specs.declared.Verdict.the-variants.{Unsat, Unknown, Spent, Full}
 use Rattle.theory.specs.Tests.{none≢some, some-injective}
@@ -22,8 +22,6 @@ use Rattle.theory.specs.Counts.{step-counts}
 use Rattle.theory.specs.Invariants.{step-sound}
 use Rattle.encoding.specs.Slots.{ruleWords}
 use Rattle.encoding.specs.Encoding.{position, literalWord}
-use Rattle.encoding.specs.Values.{valueOf}
-use Rattle.encoding.specs.Standing.{truth}
 use Rattle.units.specs.ClausesStand.{actWord}
 use Rattle.units.specs.TrailWords.{markOf, latestDecision, cleared, firstUnset, TrailStands}
 use Rattle.units.specs.LiteralWords.{word-plain}
@@ -241,12 +239,6 @@ module _ (p : Problem) (budget : ℕ) (rules : List ℕ) (rulesStand : RulesStan
     abbrev logged : Logged
     logged = loggedOf (s .trail) i
 
-    abbrev values : (l : Literal) → l .atom ∈ s .table → valueOf (m .values) (literalWord (s .table) l) ≡ truth (s .trail) l
-    values = literal-value p budget s m run h
-
-    abbrev known : (l : Literal) → isTrue (s .trail) l ≡ true → l .atom ∈ s .table
-    known = true-known p budget s m run h
-
     logs-next : (d : Step (taskOf p) budget s (more (logInstance s logged))) → hasRoom s logged ≡ true
         → NextStands p budget (more (logInstance s logged)) (result .next) (result .arrays)
     unfolding instanceStep
@@ -256,7 +248,7 @@ module _ (p : Problem) (budget : ℕ) (rules : List ℕ) (rulesStand : RulesStan
         cases Nowhere q e = none≢some (sym e ∙ found)
         cases (Instance r f) q (x, its, below, first) =
             let same = some-injective (sym found ∙ first) in
-            let (l, put, holds) = logged-stands p limits rules words s (m .values) (logIn m run) (h .log) values known r x its f below first (rw same at room) in
+            let (l, put, holds) = logged-stands p limits rules words s (m .values) (logIn m run) (h .log) (literal-value p budget s m run h) (true-known p budget s m run h) r x its f below first (rw same at room) in
             let comes : instanceStep rules (p .constants) given r f m run ≡ stepped (More (oneLogged (l .atoms) run)) (withLog l m) =
             cc (put, rule-variables p limits rules words r x its) in
             goes-on p budget (on-instance r f noAct q ∙ comes) (logs-stands i l d (subst (λ j. LogHolds p (logInstance s (loggedOf (s .trail) j)) l) (sym same) holds))
@@ -269,7 +261,7 @@ module _ (p : Problem) (budget : ℕ) (rules : List ℕ) (rulesStand : RulesStan
         cases Nowhere q e = none≢some (sym e ∙ found)
         cases (Instance r f) q (x, its, below, first) =
             let same = some-injective (sym found ∙ first) in
-            let put = logged-full p limits rules words s (m .values) (logIn m run) (h .log) values known r x its f below first (rw same at full) in
+            let put = logged-full p limits rules words s (m .values) (logIn m run) (h .log) (literal-value p budget s m run h) (true-known p budget s m run h) r x its f below first (rw same at full) in
             on-instance r f noAct q ∙ cc (put, rule-variables p limits rules words r x its)
 
   -- ── every kind of step ──

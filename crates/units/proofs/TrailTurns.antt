@@ -1,11 +1,11 @@
 -- The loops over the trail, turn by turn: what is left to do comes to what all of it came to. Assumes nothing.
 use Prim.Native.Nat.{ℕ, suc, _+_, _-_, _/_, _%_, _<_, _≤_}
 use mathlib.Core.Path.{_≡_, sym, _∙_, ap}
-use mathlib.Core.List.{List, _∷_}
+use mathlib.Core.List.{List}
 use native.Mathlib.Omega.{arith}
 use lib.ListN.{length, getD, set, take, drop}
-use lib.Seq.{drop-cons}
 use borrow.Author.Tests.{eq-eqb, ne-eqb}
+use Rattle.encoding.specs.ArrayLaws.{part-cons, part-nil}
 use Rattle.units.specs.TrailWords.{latestDecision, cleared, firstUnset}
 
 -- a word that is widened is the same word
@@ -58,11 +58,8 @@ module _ (trail : List ℕ) (n : ℕ) where
       → cleared values (take (n - i) (drop i trail)) ≡ x → cleared (set values (w / 2) 0) (take (n - (i + 1)) (drop (i + 1) trail)) ≡ x
   unfolding cleared
   undo-turn values i w h k q e =
-      let f : n - i ≡ suc (n - suc i) = omega arith in
-      let g : i + 1 ≡ suc i = omega arith in
-      let d : drop i trail ≡ getD trail i 0 ∷ drop (suc i) trail = drop-cons trail i 0 (omega arith) in
-      rw (q, g) (rw (f, d) at e)
+      rw q (rw (part-cons trail n i h k, cleared) at e)
 
   pub undo-end : (values : List ℕ) (i : ℕ) {x : List ℕ} → n ≤ i → cleared values (take (n - i) (drop i trail)) ≡ x → values ≡ x
   unfolding cleared
-  undo-end values i h e = let f : n - i ≡ 0 = omega arith in rw f at e
+  undo-end values i h e = rw (part-nil trail n i h, cleared) at e

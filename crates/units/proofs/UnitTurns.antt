@@ -1,5 +1,5 @@
 -- Step A in the code's terms: the loop over a logged clause's heads, what may be set, and the loop over the clauses. Assumes nothing.
-use Prim.Native.Nat.{ℕ, zero, suc, _+_, _-_, _*_, _≤_, _<_}
+use Prim.Native.Nat.{ℕ, suc, _+_, _-_, _*_, _≤_, _<_}
 use mathlib.Core.Path.{_≡_, sym, _∙_, ap}
 use mathlib.Core.Bool.{Bool, true, false, _&&_}
 use mathlib.Core.List.{List}
@@ -8,7 +8,8 @@ use lib.Dec.{eqb}
 use lib.ListN.{length, getD, take, drop}
 use borrow.Author.Tests.{eq-eqb, ne-eqb, lt-ltb, le-ltb}
 use Rattle.definitions.specs.Lists.{all}
-use Rattle.encoding.specs.Values.{valueOf}
+use Rattle.encoding.specs.Values.{literalValue}
+use Rattle.encoding.specs.ArrayLaws.{part-cons, part-nil, getD-rising}
 use Rattle.units.specs.Scan.{look}
 use Rattle.units.specs.Units.{clauseAt, maySet, actAt, actFrom, ClausesFit}
 use Rattle.units.specs.UnitLaws.{allFalse}
@@ -16,7 +17,6 @@ use Rattle.units.specs.declared.Seen.{Seen}
 use Rattle.units.specs.declared.Seen.the-variants.{AllFalse, One, Open}
 use Rattle.units.specs.declared.Act.{Act}
 use Rattle.units.specs.declared.Act.the-variants.{Conflict, Force, Nothing}
-use Rattle.units.proofs.ScanTurns.{part-cons, part-nil}
 
 -- ── the loop over words ──
 
@@ -25,7 +25,7 @@ pub false-start : (values words : List ℕ) (from count : ℕ)
 false-start values words from count = let e : from + count - from ≡ count = omega arith in rw e
 
 module _ (values words : List ℕ) (end i : ℕ) {b : Bool} (left : allFalse values (take (end - i) (drop i words)) ≡ b) where
-  module _ (less : i < end) (fits : end ≤ length words) {v : ℕ} (value : v ≡ valueOf values (getD words i 0)) where
+  module _ (less : i < end) (fits : end ≤ length words) {v : ℕ} (value : v ≡ literalValue values (getD words i 0)) where
     first : (eqb v 2 && allFalse values (take (end - (i + 1)) (drop (i + 1) words))) ≡ b
     unfolding all
     first = rw value (sym (ap (allFalse values) (part-cons words end i less fits)) ∙ left)
@@ -44,16 +44,9 @@ module _ (values words : List ℕ) (end i : ℕ) {b : Bool} (left : allFalse val
 
 -- the first of the clauses fit too
 module _ {starts literals heads : List ℕ} {given : ℕ} where
-  rises : {n : ℕ} → ClausesFit starts literals heads given n → (m k : ℕ) → m + k ≤ n → getD starts m 0 ≤ getD starts (m + k) 0
-  rises f m zero h = let e : m + 0 ≡ m = omega arith in rw e (omega arith)
-  rises f m (suc k) h =
-      let e : m + suc k ≡ m + k + 1 = omega arith in
-      rw e (omega (arith, rises f m k (omega arith), f .rising (m + k) (omega arith)))
-
   pub fit-first : (n m : ℕ) → m ≤ n → ClausesFit starts literals heads given n → ClausesFit starts literals heads given m
   fit-first n m h f =
-      let e : m + (n - m) ≡ n = omega arith in
-      let up : getD starts m 0 ≤ getD starts n 0 = rw e at (rises f m (n - m) (omega arith)) in
+      let up : getD starts m 0 ≤ getD starts n 0 = getD-rising starts n (f .rising) m h in
       record {
         few = omega (arith, f .few);
         limit = omega (arith, f .limit);
@@ -64,13 +57,13 @@ module _ {starts literals heads : List ℕ} {given : ℕ} where
       }
 
   module _ (c : ℕ) {from : ℕ} (f : ClausesFit starts literals heads given (c + 1)) (from-is : from ≡ getD starts c 0) where
-    pub clause-fits : {end : ℕ} → end ≡ getD starts (c + 1) 0
+    pub clause-within : {end : ℕ} → end ≡ getD starts (c + 1) 0
         → (from ≤ end) × (end ≤ 2568) × ((i : ℕ) → i < end → getD literals i 0 < 512)
-    clause-fits e = (omega (arith, f .rising c (omega arith)), omega (arith, f .inside (c + 1) (omega arith)), λ i l. f .words i (omega arith))
+    clause-within e = (omega (arith, f .rising c (omega arith)), omega (arith, f .inside (c + 1) (omega arith)), λ i l. f .words i (omega arith))
 
-    pub heads-fit : {count : ℕ} → given ≤ c → count ≡ getD heads (c - given) 0
+    pub heads-within : {count : ℕ} → given ≤ c → count ≡ getD heads (c - given) 0
         → (from + count ≤ 2568) × ((i : ℕ) → i < from + count → getD literals i 0 < 512)
-    heads-fit l e =
+    heads-within l e =
         let h : getD starts c 0 + getD heads (c - given) 0 ≤ getD starts (c + 1) 0 = f .heads-inside c l (omega arith) in
         (omega (arith, f .inside (c + 1) (omega arith)), λ i k. f .words i (omega arith))
 

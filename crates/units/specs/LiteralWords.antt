@@ -7,7 +7,7 @@ use native.Mathlib.Omega.{arith}
 use lib.ListN.{length}
 use Rattle.definitions.specs.Lists.{_∈_}
 use Rattle.definitions.specs.Words.{Atom, Literal, negate, plain}
-use Rattle.encoding.specs.Signs.{wordOf}
+use Rattle.encoding.specs.Signs.{wordOf, wordOf-half}
 use Rattle.encoding.specs.Encoding.{position, literalWord}
 use Rattle.encoding.specs.PositionLaws.{position-inside}
 
@@ -20,18 +20,18 @@ module _ (table : List Atom) where
   unfolding literalWord wordOf plain negate
   word-negated a = refl
 
-  word-bounds : (b : Bool) (n : ℕ) → (wordOf b n / 2 ≡ n) × (wordOf b n < 2 * n + 2)
+  word-below : (b : Bool) (n : ℕ) → wordOf b n < 2 * n + 2
   unfolding wordOf
-  word-bounds true n = (omega arith, omega arith)
-  word-bounds false n = (omega arith, omega arith)
+  word-below true n = omega arith
+  word-below false n = omega arith
 
   pub word-half : (l : Literal) → literalWord table l / 2 ≡ position table (l .atom)
   unfolding literalWord
-  word-half l = word-bounds (not (l .positive)) (position table (l .atom)) .0
+  word-half l = wordOf-half (not (l .positive)) (position table (l .atom))
 
   pub word-small : (l : Literal) → length table ≤ 256 → l .atom ∈ table → literalWord table l < 512
   unfolding literalWord
-  word-small l h m = omega (arith, word-bounds (not (l .positive)) (position table (l .atom)) .1, position-inside table (l .atom) m)
+  word-small l h m = omega (arith, word-below (not (l .positive)) (position table (l .atom)), position-inside table (l .atom) m)
 
   -- the word of a positive literal is even, and the next one is its negation's
   pub word-even : (l : Literal) → l ≡ plain (l .atom) → literalWord table l % 2 ≡ 0

@@ -1,5 +1,5 @@
 -- The arrays stand for the trail through every step of the search: each step sets or clears a few places, and what stands there is what the new trail says. Assumes nothing.
-use Prim.Native.Nat.{ℕ, zero, suc, _+_, _-_, _/_, _%_, _≤_, _<_}
+use Prim.Native.Nat.{ℕ, suc, _+_, _-_, _/_, _%_, _≤_, _<_}
 use mathlib.Core.Path.{_≡_, refl, sym, _∙_, ap}
 use mathlib.Core.Logic.{inl, inr}
 use mathlib.Core.Bool.{true, false}
@@ -19,23 +19,16 @@ use Rattle.theory.specs.SearchLaws.{true-at, at-true, unset-not-true, unset-not
 use Rattle.encoding.specs.PositionLaws.{apart-atoms, position-inside, position-injective, position-append, position-behind, literal-word-append}
 use Rattle.encoding.specs.Encoding.{position, literalWord}
 use Rattle.encoding.specs.Standing.{truth, Valued}
+use Rattle.encoding.specs.TruthLaws.{truth-true, truth-false, truth-unset}
+use Rattle.encoding.specs.ArrayLaws.{getD-zeros}
 use Rattle.units.specs.TrailWords.{markOf, latestDecision, cleared, firstUnset, TrailStands}
 use Rattle.units.specs.LiteralWords.{word-plain, word-negated, word-half, word-small, word-even, word-next}
 use Rattle.units.specs.Stacks.{Stacked, push, fits, pop, pop-all, top, each-place, same-words, length-cleared, cleared-latest}
 
 -- ── what a trail says of an atom ──
 
-truth-true : (t : Trail) (l : Literal) → isTrue t l ≡ true → truth t l ≡ 1
-unfolding truth
-truth-true t l p = cc
-
-truth-false : (t : Trail) (l : Literal) → isTrue t l ≡ false → isFalse t l ≡ true → truth t l ≡ 2
-unfolding truth
-truth-false t l p q = cc
-
-pub truth-unset : (t : Trail) (l : Literal) → isUnset t l ≡ true → truth t l ≡ 0
-unfolding truth
-truth-unset t l u = cc (unset-not-true t l u, unset-not-false t l u)
+pub unset-truth : (t : Trail) (l : Literal) → isUnset t l ≡ true → truth t l ≡ 0
+unset-truth t l u = truth-unset t l (unset-not-true t l u) (unset-not-false t l u)
 
 abbrev atomOf : Entry → Atom
 atomOf e = e .literal .atom
@@ -143,15 +136,15 @@ set-stands {table} {t} {values} {trail} {marks} r s l y u m h =
     e = record { literal = l; why = y }
 
 -- every entry's atom stands in the table
-abbrev pub Entered : List Atom → Trail → Type 0
-Entered table t = (e : Entry) → e ∈ t → e .literal .atom ∈ table
+abbrev pub EntriesEntered : List Atom → Trail → Type 0
+EntriesEntered table t = (e : Entry) → e ∈ t → e .literal .atom ∈ table
 
 -- no atom is set twice
 abbrev pub SetOnce : Trail → Type 0
 SetOnce t = Different (map (λ (e : Entry). e .literal .atom) t)
 
 -- every word in use is below 512
-pub words-small : {table : List Atom} {t : Trail} {values trail marks : List ℕ} → length table ≤ 256 → TrailStands table t values trail marks → Entered table t
+pub words-small : {table : List Atom} {t : Trail} {values trail marks : List ℕ} → length table ≤ 256 → TrailStands table t values trail marks → EntriesEntered table t
     → (i : ℕ) → i < length t → getD trail i 0 < 512
 words-small {table} {t} {trail = trail} h s g =
     each-place (entryWord table) (λ (w : ℕ). w < 512) t trail (s .words) (λ e m. word-small table (e .literal) h (g e m))
@@ -164,13 +157,13 @@ unset-latest {table} {e} {t} {values} {trail} {marks} h s m n =
     record {
       words = pop (entryWord table) e t trail (s .words);
       whys = pop entryMark e t marks (s .whys);
-      valued = stored-valued table values (e .literal) m 0 (e ∷ t) t h (s .valued) (truth-unset t (plain (e .literal .atom)) (new-unset t (plain (e .literal .atom)) (rw plain-atom n))) (λ a k. sym (truth-other e t a k));
+      valued = stored-valued table values (e .literal) m 0 (e ∷ t) t h (s .valued) (unset-truth t (plain (e .literal .atom)) (new-unset t (plain (e .literal .atom)) (rw plain-atom n))) (λ a k. sym (truth-other e t a k));
       outside = stored-outside table values (e .literal) m 0 (s .outside);
     }
 
 -- what stands above a trail is undone
 pub undo-stands : {table : List Atom} (above t : Trail) {values trail marks : List ℕ} → Room table values trail marks → TrailStands table (above ++ t) values trail marks
-    → Entered table (above ++ t) → SetOnce (above ++ t)
+    → EntriesEntered table (above ++ t) → SetOnce (above ++ t)
     → TrailStands table t (cleared values (take (length (above ++ t) - length t) (drop (length t) trail))) trail marks
 unfolding cleared
 undo-stands [] t r s g d = let z : length t - length t ≡ 0 = omega arith in rw (z, cleared) s
@@ -228,7 +221,7 @@ different-below (e ∷ above) t d = different-below above t (d .1)
 
 -- a decision, which stands at true, is undone with all that was set since, and its atom is set false
 flip-stands : {table : List Atom} (since : Trail) (e : Entry) (before : Trail) {values trail marks : List ℕ} → Room table values trail marks
-    → TrailStands table (since ++ (e ∷ before)) values trail marks → Entered table (since ++ (e ∷ before)) → SetOnce (since ++ (e ∷ before))
+    → TrailStands table (since ++ (e ∷ before)) values trail marks → EntriesEntered table (since ++ (e ∷ before)) → SetOnce (since ++ (e ∷ before))
     → e .literal ≡ plain (e .literal .atom)
     → TrailStands table (record { literal = negate (e .literal); why = flipped } ∷ before)
     (set (cleared values (take (length (since ++ (e ∷ before)) - length before) (drop (length before) trail))) (literalWord table (e .literal) / 2) 2)
@@ -275,7 +268,7 @@ pub record Backtracked (table : List Atom) (t u : Trail) (values trail marks : L
   pub stands : TrailStands table u (set (cleared values (take (length t - (n - 1)) (drop (n - 1) trail))) (w / 2) 2) (set trail (n - 1) (w + 1)) (set marks (n - 1) 2)
 
 pub backtrack-stands : {table : List Atom} {t u : Trail} {values trail marks : List ℕ} {n w : ℕ} → Room table values trail marks → TrailStands table t values trail marks
-    → Entered table t → SetOnce t → DecidedTrue t → backtrack t ≡ some u → n ≡ latestDecision marks (length t) → w ≡ getD trail (n - 1) 0
+    → EntriesEntered table t → SetOnce t → DecidedTrue t → backtrack t ≡ some u → n ≡ latestDecision marks (length t) → w ≡ getD trail (n - 1) 0
     → Backtracked table t u values trail marks n w
 backtrack-stands {table} {t} {u} {values} {trail} {marks} {n} {w} r s g d p h en ew = back (find-latest t u h) (en ∙ backtrack-some-length s h)
   where
@@ -373,7 +366,7 @@ module _ (goals created : List Atom) (different : Different (goals ++ created)) 
 -- ── the table grows ──
 
 -- a new atom has no value yet
-pub grown-stands : {table : List Atom} {t : Trail} {values trail marks : List ℕ} → TrailStands table t values trail marks → Entered table t
+pub grown-stands : {table : List Atom} {t : Trail} {values trail marks : List ℕ} → TrailStands table t values trail marks → EntriesEntered table t
     → (a : Atom) → (a ∈ table → ⊥) → TrailStands (table ++ (a ∷ [])) t values trail marks
 grown-stands {table} {t} {values} s g a n =
     record {
@@ -390,20 +383,15 @@ grown-stands {table} {t} {values} s g a n =
     unset = new-unset t (plain a) (λ m. let (e, k, q) = Memᴰ·of-map atomOf t m in n (Memᴰ·cast (sym (q ∙ plain-atom a)) (g e k)))
 
     new-value : (b : Atom) → b ≡ a → getD values (position (table ++ (a ∷ [])) b) 0 ≡ truth t (plain b)
-    new-value b q = rw (q, position-behind table [] a n) (s .outside (length table) (omega arith) ∙ sym (truth-unset t (plain a) unset))
+    new-value b q = rw (q, position-behind table [] a n) (s .outside (length table) (omega arith) ∙ sym (unset-truth t (plain a) unset))
 
 -- ── the start ──
-
-zeros : (n i : ℕ) → _≡_ {A = ℕ} (getD (replicate n 0) i 0) 0
-zeros zero i = refl
-zeros (suc n) zero = refl
-zeros (suc n) (suc i) = zeros n i
 
 pub start-stands : (table : List Atom) (trail marks : List ℕ) → TrailStands table [] (replicate 256 0) trail marks
 start-stands table trail marks =
     record {
       words = refl;
       whys = refl;
-      valued = λ a m. zeros 256 (position table a) ∙ sym (truth-unset [] (plain a) (new-unset [] (plain a) (λ k. List·Memᴰ·not-nil k)));
-      outside = λ i h. zeros 256 i;
+      valued = λ a m. getD-zeros 256 (position table a) ∙ sym (unset-truth [] (plain a) (new-unset [] (plain a) (λ k. List·Memᴰ·not-nil k)));
+      outside = λ i h. getD-zeros 256 i;
     }

@@ -22,10 +22,11 @@ use Rattle.encoding.specs.PositionLaws.{position-inside, position-injective, po
 use Rattle.encoding.specs.Signs.{wordOf}
 use Rattle.encoding.specs.Encoding.{position, literalWord, clauseWords}
 use Rattle.theory.specs.PlaceLaws.{getElem-in}
-use Rattle.encoding.specs.Values.{opposite, valueOf}
-use Rattle.units.specs.Scan.{unsetToo, join, seenFrom, look}
+use Rattle.encoding.specs.Values.{opposite, literalValue}
+use Rattle.units.specs.Scan.{unsetToo, seenWith, seenFrom, look}
 use Rattle.units.specs.Units.{clauseAt, maySet, actAt, actFrom}
 use Rattle.encoding.specs.Standing.{truth, Valued}
+use Rattle.encoding.specs.TruthLaws.{truth-true, truth-false, truth-unset}
 use Rattle.units.specs.ClausesStand.{ClausesStand, actWord}
 use Rattle.units.specs.declared.Seen.{Seen}
 use Rattle.units.specs.declared.Seen.the-variants.{AllFalse, One, Open}
@@ -45,30 +46,30 @@ position-past (x ∷ xs) created a n =
     by-test (sameAtom x a) (λ q. absurd (n (List·Memᴰ·head (sym (sameAtom-eq x a q))))) (λ q. rw (q, position) (omega arith))
 
 -- the parts of a word: the position, and the sign
-word-plain : (table : List Atom) (l : Literal) → l .positive ≡ true → literalWord table l ≡ 2 * position table (l .atom)
+word-positive : (table : List Atom) (l : Literal) → l .positive ≡ true → literalWord table l ≡ 2 * position table (l .atom)
 unfolding literalWord wordOf
-word-plain table l e = cc
+word-positive table l e = cc
 
-word-negated : (table : List Atom) (l : Literal) → l .positive ≡ false → literalWord table l ≡ 2 * position table (l .atom) + 1
+word-negative : (table : List Atom) (l : Literal) → l .positive ≡ false → literalWord table l ≡ 2 * position table (l .atom) + 1
 unfolding literalWord wordOf
-word-negated table l e = cc
+word-negative table l e = cc
 
 -- words of different literals differ
 pub word-injective : (table : List Atom) (l m : Literal) → l .atom ∈ table → m .atom ∈ table → literalWord table l ≡ literalWord table m → l ≡ m
 word-injective table l m j k e =
     by-test (l .positive)
     (λ p. by-test (m .positive)
-    (λ q. literal-ext (p ∙ sym q) (position-injective table (l .atom) (m .atom) j k (omega (arith, word-plain table l p, word-plain table m q))))
-    (λ q. absurd (omega (arith, word-plain table l p, word-negated table m q))))
+    (λ q. literal-ext (p ∙ sym q) (position-injective table (l .atom) (m .atom) j k (omega (arith, word-positive table l p, word-positive table m q))))
+    (λ q. absurd (omega (arith, word-positive table l p, word-negative table m q))))
     (λ p. by-test (m .positive)
-    (λ q. absurd (omega (arith, word-negated table l p, word-plain table m q)))
-    (λ q. literal-ext (p ∙ sym q) (position-injective table (l .atom) (m .atom) j k (omega (arith, word-negated table l p, word-negated table m q)))))
+    (λ q. absurd (omega (arith, word-negative table l p, word-positive table m q)))
+    (λ q. literal-ext (p ∙ sym q) (position-injective table (l .atom) (m .atom) j k (omega (arith, word-negative table l p, word-negative table m q)))))
 
 word-near : (table : List Atom) (l : Literal) → (2 * position table (l .atom) ≤ literalWord table l) × (literalWord table l ≤ 2 * position table (l .atom) + 1)
 word-near table l =
     by-test (l .positive)
-    (λ p. (omega (arith, word-plain table l p), omega (arith, word-plain table l p)))
-    (λ p. (omega (arith, word-negated table l p), omega (arith, word-negated table l p)))
+    (λ p. (omega (arith, word-positive table l p), omega (arith, word-positive table l p)))
+    (λ p. (omega (arith, word-negative table l p), omega (arith, word-negative table l p)))
 
 -- a goal literal's word is below twice the number of goal atoms, and no other's is
 pub goal-word : (k : Task) (table created : List Atom) (l : Literal) → table ≡ goalAtoms (k .clauses) ++ created
@@ -87,23 +88,11 @@ goal-word k table created l e =
 
 -- all words are false
 abbrev pub allFalse : List ℕ → List ℕ → Bool
-allFalse values ws = all (λ (x : ℕ). eqb (valueOf values x) 2) ws
+allFalse values ws = all (λ (x : ℕ). eqb (literalValue values x) 2) ws
 
 -- no literal and its negation are both on the trail
 abbrev pub Consistent : Trail → Type 0
 Consistent t = (l : Literal) → isTrue t l ≡ true → isFalse t l ≡ true → ⊥
-
-pub truth-true : (t : Trail) (l : Literal) → isTrue t l ≡ true → truth t l ≡ 1
-unfolding truth
-truth-true t l h = cc
-
-pub truth-false : (t : Trail) → Consistent t → (l : Literal) → isFalse t l ≡ true → truth t l ≡ 2
-unfolding truth
-truth-false t consistent l h = by-test (isTrue t l) (λ p. absurd (consistent l p h)) (λ p. cc)
-
-pub truth-unset : (t : Trail) (l : Literal) → isTrue t l ≡ false → isFalse t l ≡ false → truth t l ≡ 0
-unfolding truth
-truth-unset t l p q = cc
 
 -- a literal is true, false or unset
 pub by-truth : (t : Trail) → Consistent t → (l : Literal) {C : Type 0} → (isTrue t l ≡ true → isFalse t l ≡ false → C) → (isTrue t l ≡ false → isFalse t l ≡ true → C)
@@ -118,19 +107,19 @@ pub truth-negate : (t : Trail) → Consistent t → (l : Literal) → opposite (
 unfolding opposite isFalse
 truth-negate t consistent l =
     by-truth t consistent l
-    (λ p q. ap opposite (truth-true t l p) ∙ sym (truth-false t consistent (negate l) (negated-false t l ∙ p)))
-    (λ p q. ap opposite (truth-false t consistent l q) ∙ sym (truth-true t (negate l) q))
+    (λ p q. ap opposite (truth-true t l p) ∙ sym (truth-false t (negate l) q (negated-false t l ∙ p)))
+    (λ p q. ap opposite (truth-false t l p q) ∙ sym (truth-true t (negate l) q))
     (λ p q. ap opposite (truth-unset t l p q) ∙ sym (truth-unset t (negate l) q (negated-false t l ∙ p)))
 
-value-even : (values : List ℕ) (p : ℕ) → valueOf values (2 * p) ≡ getD values p 0
-unfolding valueOf
+value-even : (values : List ℕ) (p : ℕ) → literalValue values (2 * p) ≡ getD values p 0
+unfolding literalValue
 value-even values p =
     let e : (2 * p) % 2 ≡ 0 = omega arith in
     let f : (2 * p) / 2 ≡ p = omega arith in
     cc
 
-value-odd : (values : List ℕ) (p : ℕ) → valueOf values (2 * p + 1) ≡ opposite (getD values p 0)
-unfolding valueOf
+value-odd : (values : List ℕ) (p : ℕ) → literalValue values (2 * p + 1) ≡ opposite (getD values p 0)
+unfolding literalValue
 value-odd values p =
     let e : (2 * p + 1) % 2 ≡ 1 = omega arith in
     let f : (2 * p + 1) / 2 ≡ p = omega arith in
@@ -280,21 +269,21 @@ module _ (table : List Atom) (t : Trail) (consistent : Consistent t) where
 -- ── what the words of a clause say ──
 
 module _ (table : List Atom) (t : Trail) (values : List ℕ) (consistent : Consistent t) (valued : Valued table t values) where
-  pub value-truth : (l : Literal) → l .atom ∈ table → valueOf values (literalWord table l) ≡ truth t l
+  pub value-truth : (l : Literal) → l .atom ∈ table → literalValue values (literalWord table l) ≡ truth t l
   value-truth l m =
       by-test (l .positive)
-      (λ p. ap (valueOf values) (word-plain table l p) ∙ value-even values (position table (l .atom)) ∙ valued (l .atom) m ∙ ap (truth t) (sym (as-plain l p)))
-      (λ p. ap (valueOf values) (word-negated table l p) ∙ value-odd values (position table (l .atom)) ∙ ap opposite (valued (l .atom) m) ∙ truth-negate t consistent (plain (l .atom))
+      (λ p. ap (literalValue values) (word-positive table l p) ∙ value-even values (position table (l .atom)) ∙ valued (l .atom) m ∙ ap (truth t) (sym (as-plain l p)))
+      (λ p. ap (literalValue values) (word-negative table l p) ∙ value-odd values (position table (l .atom)) ∙ ap opposite (valued (l .atom) m) ∙ truth-negate t consistent (plain (l .atom))
       ∙ ap (truth t) (sym (as-negated l p)))
 
   -- a head is true just where the word of its negation is false, and so are all heads
-  head-false : (h : Literal) → h .atom ∈ table → eqb (valueOf values (literalWord table (negate h))) 2 ≡ isTrue t h
+  head-false : (h : Literal) → h .atom ∈ table → eqb (literalValue values (literalWord table (negate h))) 2 ≡ isTrue t h
   unfolding opposite
   head-false h m =
       ap (λ (v : ℕ). eqb v 2) (value-truth (negate h) (Memᴰ·cast (negate-atom h) m) ∙ sym (truth-negate t consistent h))
       ∙ by-truth t consistent h
       (λ p q. ap (λ (v : ℕ). eqb (opposite v) 2) (truth-true t h p) ∙ sym p)
-      (λ p q. ap (λ (v : ℕ). eqb (opposite v) 2) (truth-false t consistent h q) ∙ sym p)
+      (λ p q. ap (λ (v : ℕ). eqb (opposite v) 2) (truth-false t h p q) ∙ sym p)
       (λ p q. ap (λ (v : ℕ). eqb (opposite v) 2) (truth-unset t h p q) ∙ sym p)
 
   pub heads-false : (hs : List Literal) → ((h : Literal) → h ∈ hs → h .atom ∈ table)
@@ -305,24 +294,24 @@ module _ (table : List Atom) (t : Trail) (values : List ℕ) (consistent : Consi
 
   -- one word more, and all words
   seen-more : (c : Clause) (x : Literal) → ((l : Literal) → l ∈ c ++ (x ∷ []) → l .atom ∈ table) → (seen : Seen) → SeenOf table t c seen
-      → SeenOf table t (c ++ (x ∷ [])) (join seen (literalWord table x) (valueOf values (literalWord table x)))
-  unfolding join
+      → SeenOf table t (c ++ (x ∷ [])) (seenWith seen (literalWord table x) (literalValue values (literalWord table x)))
+  unfolding seenWith
   seen-more c x m seen s =
       by-truth t consistent x
       (λ p q. along (truth-true t x p) (inl (x, last-in table t c x, p)))
-      (λ p q. along (truth-false t consistent x q) (false-more table t c x q seen s))
+      (λ p q. along (truth-false t x p q) (false-more table t c x q seen s))
       (λ p q. along (truth-unset t x p q) (unset-more table t c x (unset-of t x p q) m seen s))
     where
-      along : {v : ℕ} → truth t x ≡ v → SeenOf table t (c ++ (x ∷ [])) (join seen (literalWord table x) v)
-          → SeenOf table t (c ++ (x ∷ [])) (join seen (literalWord table x) (valueOf values (literalWord table x)))
-      along e h = subst (λ (v : ℕ). SeenOf table t (c ++ (x ∷ [])) (join seen (literalWord table x) v)) (sym (value-truth x (m x (last-in table t c x)) ∙ e)) h
+      along : {v : ℕ} → truth t x ≡ v → SeenOf table t (c ++ (x ∷ [])) (seenWith seen (literalWord table x) v)
+          → SeenOf table t (c ++ (x ∷ [])) (seenWith seen (literalWord table x) (literalValue values (literalWord table x)))
+      along e h = subst (λ (v : ℕ). SeenOf table t (c ++ (x ∷ [])) (seenWith seen (literalWord table x) v)) (sym (value-truth x (m x (last-in table t c x)) ∙ e)) h
 
   seen-all : (c rest : Clause) → ((l : Literal) → l ∈ c ++ rest → l .atom ∈ table) → (seen : Seen) → SeenOf table t c seen
       → SeenOf table t (c ++ rest) (seenFrom values seen (clauseWords table rest))
   unfolding seenFrom clauseWords
   seen-all c [] m seen s = subst (λ (d : Clause). SeenOf table t d seen) (sym (append-nil c)) s
   seen-all c (x ∷ rest) m seen s =
-      let next : Seen = join seen (literalWord table x) (valueOf values (literalWord table x)) in
+      let next : Seen = seenWith seen (literalWord table x) (literalValue values (literalWord table x)) in
       let e : c ++ (x ∷ []) ++ rest ≡ c ++ (x ∷ rest) = append-assoc c (x ∷ []) rest in
       let inside : (l : Literal) → l ∈ c ++ (x ∷ []) ++ rest → l .atom ∈ table = λ l n. m l (subst (λ (d : Clause). l ∈ d) e n) in
       subst (λ (d : Clause). SeenOf table t d (seenFrom values next (clauseWords table rest))) e (seen-all (c ++ (x ∷ [])) rest inside next (seen-more c x (λ l n. inside l (Memᴰ·append-left rest n)) seen s))
@@ -349,7 +338,7 @@ module _ (table : List Atom) (t : Trail) (values : List ℕ) (consistent : Consi
   not-all : (l : Literal) → l .atom ∈ table → isUnset t l ≡ true → (ws : List ℕ) → literalWord table l ∈ ws → allFalse values ws ≡ false
   not-all l m u ws n =
       by-test (allFalse values ws)
-      (λ e. let z : valueOf values (literalWord table l) ≡ 2 = eqb-true _ 2 (all-each (λ (x : ℕ). eqb (valueOf values x) 2) ws e (literalWord table l) n) in
+      (λ e. let z : literalValue values (literalWord table l) ≡ 2 = eqb-true _ 2 (all-each (λ (x : ℕ). eqb (literalValue values x) 2) ws e (literalWord table l) n) in
       let y = truth-unset t l (unset-not-true t l u) (unset-not-false t l u) in
       absurd (omega (arith, z, y, value-truth l m)))
       (λ e. e)

@@ -7,8 +7,12 @@ ghost use Prim.Native.Nat.{ℕ, _+_, _≤_, _<_};
 ghost use lib.Dec.{eqb};
 ghost use lib.ListN.{getD, take, drop};
 ghost use Rattle.definitions.specs.Lists.{all};
-ghost use Rattle.encoding.specs.Values.{valueOf};
+ghost use Rattle.encoding.specs.Values.{literalValue};
 ghost use Rattle.units.specs.Units.{maySet, actAt, actFrom, ClausesFit};
+use encoding::ATOMS;
+use encoding::LITERALS;
+use encoding::LOGGED;
+use encoding::STARTS;
 use encoding::values;
 
 // What the literals of a clause say so far: all false; one unset, the others false; a true one or two unset ones.
@@ -26,9 +30,9 @@ pub enum Act {
 }
 
 // Whether so many words from a place on are all false.
-fn all_false(values: &[u8; 256], literals: &[u16; 2568], from: usize, count: usize) -> bool
+fn all_false(values: &[u8; ATOMS], literals: &[u16; LITERALS], from: usize, count: usize) -> bool
     requires { ⌜ (from + count ≤ 2568) × ((i : ℕ) → i < from + count → getD (now literals) i 0 < 512) ⌝ }
-    ensures { λ r. ⌜ r ≡ all (λ (x : ℕ). eqb (valueOf (now (values .entry)) x) 2) (take count (drop from (now (literals .entry)))) ⌝ }
+    ensures { λ r. ⌜ r ≡ all (λ (x : ℕ). eqb (literalValue (now (values .entry)) x) 2) (take count (drop from (now (literals .entry)))) ⌝ }
 {
     let words: &[u16] = literals; // the proof knows a slice's length
     let end = from + count;
@@ -44,18 +48,12 @@ fn all_false(values: &[u8; 256], literals: &[u16; 2568], from: usize, count: usi
     true
 }
 
-fn wide8(x: u8) -> usize
-    ensures { λ r. ⌜ (r ≡ x) × (r < 256) ⌝ }
-{
-    x as usize
-}
-
 // Whether clause c may set the literal.
 fn may_set(
-    values: &[u8; 256],
-    starts: &[u16; 578],
-    literals: &[u16; 2568],
-    heads: &[u8; 512],
+    values: &[u8; ATOMS],
+    starts: &[u16; STARTS],
+    literals: &[u16; LITERALS],
+    heads: &[u8; LOGGED],
     given: usize,
     goals: usize,
     c: usize,
@@ -72,16 +70,16 @@ fn may_set(
     }
     let i = c - given;
     let from = encoding::wide(starts[c]);
-    let count = wide8(heads[i]);
+    let count = encoding::wide8(heads[i]);
     all_false(values, literals, from, count)
 }
 
 // What clause c asks for.
 fn act_at(
-    values: &[u8; 256],
-    starts: &[u16; 578],
-    literals: &[u16; 2568],
-    heads: &[u8; 512],
+    values: &[u8; ATOMS],
+    starts: &[u16; STARTS],
+    literals: &[u16; LITERALS],
+    heads: &[u8; LOGGED],
     given: usize,
     goals: usize,
     c: usize,
@@ -106,10 +104,10 @@ fn act_at(
 
 // Step A over the first clauses.
 pub fn next_act(
-    values: &[u8; 256],
-    starts: &[u16; 578],
-    literals: &[u16; 2568],
-    heads: &[u8; 512],
+    values: &[u8; ATOMS],
+    starts: &[u16; STARTS],
+    literals: &[u16; LITERALS],
+    heads: &[u8; LOGGED],
     given: usize,
     goals: usize,
     clauses: usize,

@@ -2,13 +2,15 @@
 ghost use mathlib.Core.Path.{_≡_};
 ghost use Prim.Native.Nat.{ℕ, _-_, _≤_, _<_};
 ghost use lib.ListN.{getD, take, drop};
-ghost use Rattle.units.specs.Scan.{join, look};
+ghost use Rattle.units.specs.Scan.{seenWith, look};
 use crate::Seen;
+use encoding::ATOMS;
+use encoding::LITERALS;
 use encoding::values::value;
 
 // One literal more of a clause.
-fn joined(seen: Seen, w: u16, v: u8) -> Seen
-    ensures { λ r. ⌜ r ≡ join seen w v ⌝ }
+fn seen_with(seen: Seen, w: u16, v: u8) -> Seen
+    ensures { λ r. ⌜ r ≡ seenWith seen w v ⌝ }
 {
     if v == 2 {
         return seen;
@@ -24,7 +26,7 @@ fn joined(seen: Seen, w: u16, v: u8) -> Seen
 }
 
 // What the words from one place up to another say.
-pub fn look_at(values: &[u8; 256], literals: &[u16; 2568], from: usize, end: usize) -> Seen
+pub fn look_at(values: &[u8; ATOMS], literals: &[u16; LITERALS], from: usize, end: usize) -> Seen
     requires { ⌜ (from ≤ end) × (end ≤ 2568) × ((i : ℕ) → i < end → getD (now literals) i 0 < 512) ⌝ }
     ensures { λ r. ⌜ r ≡ look (now (values .entry)) (take (end - from) (drop from (now (literals .entry)))) ⌝ }
 {
@@ -34,7 +36,7 @@ pub fn look_at(values: &[u8; 256], literals: &[u16; 2568], from: usize, end: usi
     while i < end {
         let w = words[i];
         let v = value(values, w);
-        seen = joined(seen, w, v);
+        seen = seen_with(seen, w, v);
         if let Seen::Open = seen {
             return Seen::Open;
         }

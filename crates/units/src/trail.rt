@@ -3,12 +3,13 @@ ghost use mathlib.Core.Path.{_≡_};
 ghost use Prim.Native.Nat.{ℕ, _+_, _-_, _/_, _%_, _≤_, _<_};
 ghost use lib.ListN.{length, getD, set, take, drop};
 ghost use Rattle.units.specs.TrailWords.{latestDecision, cleared, firstUnset};
+use encoding::ATOMS;
 
 // Sets a literal, with why it is set, behind the first n entries.
 pub fn set_literal(
-    values: &mut [u8; 256],
-    trail: &mut [u16; 256],
-    marks: &mut [u8; 256],
+    values: &mut [u8; ATOMS],
+    trail: &mut [u16; ATOMS],
+    marks: &mut [u8; ATOMS],
     n: usize,
     w: u16,
     why: u8,
@@ -24,7 +25,7 @@ pub fn set_literal(
 }
 
 // The place behind the latest decision that stands at true, 0 where there is none.
-pub fn latest_decision(marks: &[u8; 256], n: usize) -> usize
+pub fn latest_decision(marks: &[u8; ATOMS], n: usize) -> usize
     requires { ⌜ n ≤ 256 ⌝ }
     ensures { λ r. ⌜ (r ≡ latestDecision (now (marks .entry)) n) × (r ≤ n) ⌝ }
 {
@@ -40,7 +41,7 @@ pub fn latest_decision(marks: &[u8; 256], n: usize) -> usize
 }
 
 // Unsets the entries from one place up to another.
-pub fn undo(values: &mut [u8; 256], trail: &[u16; 256], from: usize, n: usize)
+pub fn undo(values: &mut [u8; ATOMS], trail: &[u16; ATOMS], from: usize, n: usize)
     requires { ⌜ (from ≤ n) × (n ≤ 256) × (n ≤ length (now trail)) × ((i : ℕ) → i < n → getD (now trail) i 0 < 512) ⌝ }
     ensures { λ _. ⌜ now (values .exit) ≡ cleared (now (values .entry)) (take (n - from) (drop from (now (trail .entry)))) ⌝ }
 {
@@ -53,7 +54,7 @@ pub fn undo(values: &mut [u8; 256], trail: &[u16; 256], from: usize, n: usize)
 }
 
 // The first unset position among the first, or their number.
-pub fn first_unset(values: &[u8; 256], goals: usize) -> usize
+pub fn first_unset(values: &[u8; ATOMS], goals: usize) -> usize
     requires { ⌜ goals ≤ 256 ⌝ }
     ensures { λ r. ⌜ r ≡ firstUnset (now (values .entry)) 0 goals ⌝ }
 {

@@ -1,5 +1,6 @@
 pub mod Walk
-pub mod Skips
+pub mod Fillings
+pub mod Firing
 pub mod WalkLaws
 pub mod RuleSlots
 pub mod Masks

@@ -42,10 +42,10 @@ Left s =
     Putting (s .args .room .now) (s .args .at)
     (loggedBytes (s .args .given) (s .args .arities .now) (s .args .starts .now) (s .args .literals .now) (s .args .numbers .now) (s .args .table .now) (s .args .n))
 
-abbrev start : tie.After-wide8 → tie.Start
+abbrev start : tie.After-widened → tie.Start
 start c = c .before .before .before .before .before .before
 
-count : (c : tie.After-wide8) → end (start c) - from (start c) ≡ length (words (start c))
+count : (c : tie.After-widened) → end (start c) - from (start c) ≡ length (words (start c))
 count c = clause-count _ _ _ (rises (start c)) (omega (arith, inside (start c)))
 
 abbrev start1 : tie.After-put-number → tie.Start
@@ -67,7 +67,7 @@ one c = put-first (put-none-yet refl) (logged-first _ _ _ _ _ _ _) (c .put-numbe
 two : (c : tie.After-put-number2) → Left (start2 c) (rowBytes (plus (length (words (start2 c))) ∷ numbers (start2 c))) (c .put-number2 .result) (c .put-number2 .last .0)
 two c =
     let before = c .before .before .before .before in
-    put-first (one before) (row-first (before .before .before .wide8 .ensures .0) _) (c .put-number2 .ensures)
+    put-first (one before) (row-first (before .before .before .widened .ensures .0) _) (c .put-number2 .ensures)
 
 three : (c : tie.After-put-number3) → Left (start3 c) (rowBytes (numbers (start3 c))) (c .put-number3 .result) (c .put-number3 .last .0)
 three c =
@@ -101,11 +101,11 @@ element-copy-out-end c = search needs
 cast-end : tie.Need-cast-end
 cast-end c = omega (arith, inside (c .before .before .before .before))
 
-element-copy-out-wide8 : tie.Need-element-copy-out-wide8
-element-copy-out-wide8 c = search needs
+element-copy-out-widened : tie.Need-element-copy-out-widened
+element-copy-out-widened c = search needs
 
-wide8-requires : tie.Need-wide8-requires
-wide8-requires c κs = search needs
+widened-requires : tie.Need-widened-requires
+widened-requires c κs = search needs
 
 sub-count : tie.Need-sub-count
 sub-count c = rises (start c)
@@ -119,7 +119,7 @@ put-number-requires c κs = (parts-room (logged-first _ _ _ _ _ _ _) _ _ (start 
 put-number-requires-2 : tie.Need-put-number-requires-2
 put-number-requires-2 c κs =
     let before = c .before .before .before in
-    (put-first-room (one before) (row-first (before .before .before .wide8 .ensures .0) _) (start1 before .pre .2), no-sign)
+    (put-first-room (one before) (row-first (before .before .before .widened .ensures .0) _) (start1 before .pre .2), no-sign)
 
 put-number-requires-3 : tie.Need-put-number-requires-3
 put-number-requires-3 c κs =
@@ -157,8 +157,8 @@ put-logged-spec =
     mul-end
     element-copy-out-end
     cast-end
-    element-copy-out-wide8
-    wide8-requires
+    element-copy-out-widened
+    widened-requires
     sub-count
     cast-count
     put-number-requires

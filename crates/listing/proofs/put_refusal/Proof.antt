@@ -9,7 +9,7 @@ use Rattle.definitions.specs.Sheet.{plus}
 use Rattle.definitions.specs.Listing.{refusalLine}
 use Rattle.listing.specs.Puts.{Parts, Putting, put-none-yet, put-room, put-last, put-first-room, put-first, parts-room}
 use Rattle.listing.specs.Lines.{columnBytes, rowBytes}
-use Rattle.listing.proofs.Parts.{unsigned, no-sign, row-first, row-end}
+use Rattle.listing.proofs.Parts.{unsigned, no-sign, row-first, row-parts}
 use Rattle.listing.proofs.put_refusal.Statement.{statement}
 use Rattle.listing.proofs.put_refusal.Tie as tie
 
@@ -26,7 +26,7 @@ refusal-first q n = row-first {n = 9} refl (plus q ∷ plus n ∷ [])
 
 last-column : (n : ℕ) → Parts (rowBytes (plus n ∷ [])) (columnBytes (unsigned n ∷ [])) (10 ∷ [])
 unfolding plus
-last-column n = row-end (unsigned n ∷ [])
+last-column n = row-parts (unsigned n ∷ [])
 
 abbrev start1 : tie.After-put-number → tie.Start
 start1 c = c .before .before .before .before
@@ -43,13 +43,13 @@ one c = put-first (put-none-yet refl) (refusal-first _ _) (c .put-number .ensure
 two : (c : tie.After-put-number2) → Left (start2 c) (rowBytes (plus (start2 c .args .line) ∷ [])) (c .put-number2 .result) (c .put-number2 .last .0)
 two c =
     let before = c .before .before .before .before in
-    put-first (one before) (row-first (before .before .before .wide8 .ensures .0) _) (c .put-number2 .ensures)
+    put-first (one before) (row-first (before .before .before .widened .ensures .0) _) (c .put-number2 .ensures)
 
 three : (c : tie.After-put-number3) → Left (start3 c) (10 ∷ []) (c .put-number3 .result) (c .put-number3 .last .0)
 three c = put-first (two (c .before .before .before .before)) (last-column _) (c .put-number3 .ensures)
 
-wide8-requires : tie.Need-wide8-requires
-wide8-requires c κs = search needs
+widened-requires : tie.Need-widened-requires
+widened-requires c κs = search needs
 
 put-number-requires : tie.Need-put-number-requires
 put-number-requires c κs = (parts-room (refusal-first _ _) _ _ (fits (c .before .before .before)), no-sign)
@@ -57,7 +57,7 @@ put-number-requires c κs = (parts-room (refusal-first _ _) _ _ (fits (c .before
 put-number-requires-2 : tie.Need-put-number-requires-2
 put-number-requires-2 c κs =
     let before = c .before .before .before in
-    (put-first-room (one before) (row-first (before .before .before .wide8 .ensures .0) _) (fits (start1 before)), no-sign)
+    (put-first-room (one before) (row-first (before .before .before .widened .ensures .0) _) (fits (start1 before)), no-sign)
 
 put-number-requires-3 : tie.Need-put-number-requires-3
 put-number-requires-3 c κs =
@@ -81,7 +81,7 @@ pub put-refusal-spec : {M : Type 1} → statement M
 put-refusal-spec =
     tie.close
     (tie.spec
-    wide8-requires
+    widened-requires
     put-number-requires
     put-number-requires-2
     put-number-requires-3

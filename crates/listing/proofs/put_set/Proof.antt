@@ -5,7 +5,7 @@ use borrow.Author.Needs.{needs}
 use Rattle.definitions.specs.Sheet.{plus}
 use Rattle.listing.specs.Puts.{Putting, put-none-yet, put-room, put-last, put-first-room, put-first, parts-room}
 use Rattle.listing.specs.Lines.{rowBytes, codeNumbers}
-use Rattle.listing.proofs.Parts.{no-sign, row-first, row-end}
+use Rattle.listing.proofs.Parts.{no-sign, row-first, row-parts}
 use Rattle.listing.proofs.put_set.Statement.{statement}
 use Rattle.listing.proofs.put_set.Tie as tie
 
@@ -33,7 +33,7 @@ two : (c : tie.After-put-literal)
     (10 ∷ [])
     (c .put-literal .result)
     (c .put-literal .last .0)
-two c = put-first (one (c .before .before .before .before)) (row-end _) (c .put-literal .ensures)
+two c = put-first (one (c .before .before .before .before)) (row-parts _) (c .put-literal .ensures)
 
 put-number-requires : tie.Need-put-number-requires
 put-number-requires c κs = (parts-room (row-first {n = 7} refl _) _ _ (c .before .before .pre), no-sign)
@@ -41,7 +41,7 @@ put-number-requires c κs = (parts-room (row-first {n = 7} refl _) _ _ (c .befor
 put-literal-requires : tie.Need-put-literal-requires
 put-literal-requires c κs =
     let before = c .before .before .before in
-    put-first-room (one before) (row-end _) (start before .pre)
+    put-first-room (one before) (row-parts _) (start before .pre)
 
 put-end-requires : tie.Need-put-end-requires
 put-end-requires c κs =

@@ -1,6 +1,6 @@
 -- `units::act_at` meets its contract, by what the words of the clause say. Assumes nothing.
 use borrow.Author.Needs.{needs}
-use Rattle.units.proofs.UnitTurns.{clause-fits, act-conflict, act-force, act-not, act-open}
+use Rattle.units.proofs.UnitTurns.{clause-within, act-conflict, act-force, act-not, act-open}
 use Rattle.units.proofs.act_at.Statement.{statement}
 use Rattle.units.proofs.act_at.Tie as tie
 
@@ -28,7 +28,7 @@ wide-requires-2 c κs = search needs
 look-at-requires : tie.Need-look-at-requires
 look-at-requires c κs =
     let start = c .before .before .before .before in
-    clause-fits (start .args .c) (start .pre .1) (c .before .before .wide .ensures .0) (c .wide2 .ensures .0)
+    clause-within (start .args .c) (start .pre .1) (c .before .before .wide .ensures .0) (c .wide2 .ensures .0)
 
 enum-told : tie.Need-enum-told
 enum-told c = search needs

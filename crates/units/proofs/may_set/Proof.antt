@@ -1,6 +1,6 @@
 -- `units::may_set` meets its contract: a goal atom, a goal clause, or the head words of a logged one. Assumes nothing.
 use borrow.Author.Needs.{needs}
-use Rattle.units.proofs.UnitTurns.{heads-fit, may-goal, may-not, may-heads}
+use Rattle.units.proofs.UnitTurns.{heads-within, may-goal, may-not, may-heads}
 use Rattle.units.proofs.may_set.Statement.{statement}
 use Rattle.units.proofs.may_set.Tie as tie
 
@@ -34,7 +34,7 @@ wide8-requires c κs = search needs
 all-false-requires : tie.Need-all-false-requires
 all-false-requires c κs =
     let start = c .before .before .before .before .before .before .before in
-    heads-fit (start .args .c) (start .pre .1) (c .before .before .wide2 .ensures .0) (c .before .before .before .before .if2 .left) (c .wide8 .ensures .0)
+    heads-within (start .args .c) (start .pre .1) (c .before .before .wide2 .ensures .0) (c .before .before .before .before .if2 .left) (c .wide8 .ensures .0)
 
 returns-3 : tie.Need-returns-3
 returns-3 c =

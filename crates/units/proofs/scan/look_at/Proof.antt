@@ -28,8 +28,8 @@ shared-slice-read-w c = omega arith
 value-requires : tie.Need-value-requires Inv-loop μ-loop
 value-requires c κs = c .before .before .before .before .pre .2 (c .before .before .loop .i) (c .before .loop-test .taken)
 
-joined-requires : tie.Need-joined-requires Inv-loop μ-loop
-joined-requires c κs = search needs
+seen-with-requires : tie.Need-seen-with-requires Inv-loop μ-loop
+seen-with-requires c κs = search needs
 
 enum-told : tie.Need-enum-told Inv-loop μ-loop
 enum-told c = search needs
@@ -41,7 +41,7 @@ returns c =
     (c .before .before .before .before .before .loop-test .taken)
     (omega arith)
     (c .before .before .before .value .ensures)
-    (c .before .before .joined .ensures)
+    (c .before .before .seen-with .ensures)
     (c .enum-told .given .1)
 
 add-i : tie.Need-add-i Inv-loop μ-loop
@@ -58,7 +58,7 @@ loop-again c = (
       (c .before .before .before .before .loop-test .taken)
       (omega arith)
       (c .before .before .value .ensures)
-      (c .before .joined .ensures),
+      (c .before .seen-with .ensures),
 )
 
 returns-2 : tie.Need-returns-2 Inv-loop μ-loop
@@ -74,7 +74,7 @@ look-at-spec =
     mul-w
     shared-slice-read-w
     value-requires
-    joined-requires
+    seen-with-requires
     enum-told
     returns
     add-i
