@@ -6,6 +6,12 @@
 #include <stddef.h>
 #include <stdint.h>
 
+/* The bytes that a room must have; of a smaller one a call is refused with 1. */
+#define THUNYAWORM_ROOM 45056
+
+/* The most values that the first call puts into the places. */
+#define THUNYAWORM_PLACES 5
+
 /* The first call: the listing stands at the front of the room. For a refusal its number and line are put into the places, and 2 is
    handed back; otherwise the answer (0 UNSAT, 1 UNKNOWN, 2 SPENT, 3 FULL), the atoms, logged clauses, decisions and conflicts, and 5.
    With fewer than five places nothing is done, and 0 is handed back. */

@@ -3,7 +3,7 @@ ghost use Prim.Native.Nat.{_≤_};
 ghost use mathlib.Core.Path.{_≡_};
 ghost use lib.ListN.{length};
 ghost use lib.Seq.{sets};
-ghost use Rattle.definitions.specs.Call.{listedPart, values as valuesOf};
+ghost use Rattle.definitions.specs.Call.{listedPart, roomAfter, values as valuesOf};
 ghost use Rattle.interface.specs.Exported.{handed, roomLeft};
 use definitions::Answer;
 
@@ -54,8 +54,9 @@ pub extern "C" fn thunyaworm_solve(
 // The second call: how many bytes at the front of the room hold the listing.
 #[no_mangle]
 pub extern "C" fn thunyaworm_listing(sheet: &[u8], budget: u32, room: &mut [u8]) -> usize
-    ensures { λ r. ⌜ r ≡ length (listedPart (now (sheet .entry)) budget (now (room .entry))) ⌝ }
+    ensures { λ r. ⌜ (r ≡ length (listedPart (now (sheet .entry)) budget (now (room .entry))))
+        × (now (room .exit) ≡ roomAfter (now (sheet .entry)) budget (now (room .entry))) ⌝ }
 {
-    let part = solver::solve_listing(sheet, budget, room);
-    part.len()
+    let listed = solver::list(sheet, budget, room);
+    listed
 }

@@ -146,8 +146,8 @@ module _ (sheet : List ℕ) (p : Problem) (sizes : Sizes) (arities rules starts 
                 finished = finish s (subst (λ (w : Verdict). StandsAtEnd p budget w s (machine starts₁ literals₁ heads₁ numbers₁ table₁ index₁ values₁ trail₁ marks₁) (ended .run)) (sym same) stands);
               }
 
-      pub listing-fits : length (listing (ended .verdict) (at-end .state)) ≤ 45056
-      listing-fits = listing-at-most sheet p (held .reads) budget (ended .verdict) (at-end .state) (at-end .comes) small
+      pub listing-in-room : length (listing (ended .verdict) (at-end .state)) ≤ 45056
+      listing-in-room = listing-at-most sheet p (held .reads) budget (ended .verdict) (at-end .state) (at-end .comes) small
 
       -- the counts fit their fields
       pub counts-fit : (ended .run .atoms ≤ 256) × (sizes .clauses ≤ ended .run .clauses) × (ended .run .clauses - sizes .clauses ≤ 512)
@@ -171,7 +171,7 @@ module _ (sheet : List ℕ) (p : Problem) (sizes : Sizes) (arities rules starts 
           (record {
             answer = same-counts (ended .verdict) (stands .log .atoms) logged (stands .decisions) (stands .conflicts);
             size = omega (arith, put .place);
-            stored = put .stored ∙ sets-front room bytes (omega (arith, listing-fits));
+            stored = put .stored ∙ sets-front room bytes (omega (arith, listing-in-room));
           })
 
 -- ── the call ──

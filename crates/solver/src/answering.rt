@@ -11,30 +11,37 @@ ghost use Rattle.solver.specs.Solving.{SolvedAs, Held};
 use crate::Solved;
 use definitions::Answer;
 use definitions::Counts;
-use sheet::Read;
+use encoding::ATOMS;
+use encoding::CODES;
+use encoding::LITERALS;
+use encoding::LOGGED;
+use encoding::RULE_WORDS;
+use encoding::STARTS;
+use encoding::SYMBOLS;
 use encoding::Sizes;
+use sheet::Read;
 
 // The search of a sheet that was read, and its listing.
 fn searched(
     room: &mut [u8],
     sizes: Sizes,
     budget: u32,
-    arities: &[u8; 16],
-    rules: &[u16; 704],
-    starts: &mut [u16; 578],
-    literals: &mut [u16; 2568],
-    table: &mut [u32; 256],
-    index: &mut [u16; 524288],
+    arities: &[u8; SYMBOLS],
+    rules: &[u16; RULE_WORDS],
+    starts: &mut [u16; STARTS],
+    literals: &mut [u16; LITERALS],
+    table: &mut [u32; ATOMS],
+    index: &mut [u16; CODES],
 ) -> Solved
     requires { ⌜ (45056 ≤ length (now room)) × ((sheet : List ℕ) × (p : Problem) × Held sheet p sizes (arrays (now arities) (now rules) (now starts) (now literals) (now table) (now index))) ⌝ }
     ensures { λ r. ⌜ ((sheet : List ℕ) (p : Problem) → Held sheet p sizes (arrays (now (arities .entry)) (now (rules .entry)) (now (starts .entry)) (now (literals .entry)) (now (table .entry)) (now (index .entry)))
         → SolvedAs (searchedOf (searchOf p budget)) (now (room .entry)) r (now (room .exit))) ⌝ }
 {
-    let mut heads = [0u8; 512];
-    let mut numbers = [0u8; 512];
-    let mut values = [0u8; 256];
-    let mut trail = [0u16; 256];
-    let mut marks = [0u8; 256];
+    let mut heads = [0u8; LOGGED];
+    let mut numbers = [0u8; LOGGED];
+    let mut values = [0u8; ATOMS];
+    let mut trail = [0u16; ATOMS];
+    let mut marks = [0u8; ATOMS];
     let ended = search::search(
         sizes,
         budget,
@@ -81,12 +88,12 @@ pub fn answered(sheet: &[u8], budget: u32, room: &mut [u8]) -> Solved
     requires { ⌜ 45056 ≤ length (now room) ⌝ }
     ensures { λ r. ⌜ SolvedAs (answeredOf (read (now (sheet .entry))) budget) (now (room .entry)) r (now (room .exit)) ⌝ }
 {
-    let mut arities = [0u8; 16];
-    let mut rules = [0u16; 704];
-    let mut starts = [0u16; 578];
-    let mut literals = [0u16; 2568];
-    let mut table = [0u32; 256];
-    let mut index = [0u16; 524288];
+    let mut arities = [0u8; SYMBOLS];
+    let mut rules = [0u16; RULE_WORDS];
+    let mut starts = [0u16; STARTS];
+    let mut literals = [0u16; LITERALS];
+    let mut table = [0u32; ATOMS];
+    let mut index = [0u16; CODES];
     match sheet::read_sheet(
         sheet,
         &mut arities,

@@ -9,6 +9,9 @@ ghost use Rattle.solver.specs.Solving.{SolvedAs};
 use definitions::Answer;
 use definitions::Refusal;
 
+// The room that a call asks for.
+pub const ROOM: usize = 45056;
+
 // The answer, and how many bytes at the room's front hold the listing.
 pub struct Solved {
     pub answer: Answer,
@@ -19,7 +22,7 @@ pub struct Solved {
 fn solve_both(sheet: &[u8], budget: u32, room: &mut [u8]) -> Solved
     ensures { λ r. ⌜ SolvedAs (result (now (sheet .entry)) budget (now (room .entry))) (now (room .entry)) r (now (room .exit)) ⌝ }
 {
-    if room.len() < 45056 {
+    if room.len() < ROOM {
         return Solved {
             answer: Answer::Refused(Refusal { number: 1, line: 0 }),
             length: 0,
@@ -46,8 +49,17 @@ pub fn solve_listing<'a, 'b>(sheet: &'b [u8], budget: u32, room: &'a mut [u8]) -
     &mut room[..length]
 }
 
+// The second call for those who keep the room: how many bytes at its front hold the listing.
+pub fn list(sheet: &[u8], budget: u32, room: &mut [u8]) -> usize
+    ensures { λ r. ⌜ (r ≡ length (listedPart (now (sheet .entry)) budget (now (room .entry))))
+        × (now (room .exit) ≡ roomAfter (now (sheet .entry)) budget (now (room .entry))) ⌝ }
+{
+    let solved = solve_both(sheet, budget, room);
+    solved.length
+}
+
 // What the program prints for a sheet, at the front of the room: the listing, or the line of a refusal. How many bytes it has.
-pub fn print(sheet: &[u8], budget: u32, room: &mut [u8; 45056]) -> usize
+pub fn print(sheet: &[u8], budget: u32, room: &mut [u8; ROOM]) -> usize
     ensures { λ r. ⌜ (r ≡ length (printed (now (sheet .entry)) budget)) × (now (room .exit) ≡ written (printed (now (sheet .entry)) budget) (now (room .entry))) ⌝ }
 {
     let solved = solve_both(sheet, budget, room);

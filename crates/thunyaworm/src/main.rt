@@ -5,7 +5,7 @@ use libc::STDOUT_FILENO;
 
 fn main() {
     let mut sheet = [0u8; 16385];
-    let mut room = [0u8; 45056];
+    let mut room = [0u8; solver::ROOM];
     let count = io::read_full(STDIN_FILENO, &mut sheet);
     let size = solver::print(&sheet[..count], 1000000, &mut room);
     io::write_all(STDOUT_FILENO, &room[..size]);

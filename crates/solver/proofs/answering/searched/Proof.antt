@@ -2,7 +2,7 @@
 use mathlib.Core.Path.{refl}
 use native.Mathlib.Omega.{arith}
 use borrow.Author.Needs.{needs}
-use Rattle.solver.specs.SolvingLaws.{held-loaded, at-end, listing-fits, counts-fit, search-solved}
+use Rattle.solver.specs.SolvingLaws.{held-loaded, at-end, listing-in-room, counts-fit, search-solved}
 use Rattle.solver.proofs.answering.searched.Statement.{statement}
 use Rattle.solver.proofs.answering.searched.Tie as tie
 
@@ -18,7 +18,7 @@ put-listing-requires c κs =
     let (sheet, p, held) = start .pre .1 in
     let e = c .before .before .before .before .before .before .search in
     let end = at-end sheet p _ _ _ _ _ _ _ held _ _ _ _ _ refl refl refl refl refl _ (omega (arith, start .fits .budget)) _ _ _ _ _ _ _ _ _ _ (e .ensures) in
-    (p, start .args .budget, end .state, end .finished, omega (arith, start .pre .0, listing-fits sheet p _ _ _ _ _ _ _ held _ _ _ _ _ refl refl refl refl refl _ (omega (arith, start .fits .budget)) _ _ _ _ _ _ _ _ _ _ (e .ensures)))
+    (p, start .args .budget, end .state, end .finished, omega (arith, start .pre .0, listing-in-room sheet p _ _ _ _ _ _ _ held _ _ _ _ _ refl refl refl refl refl _ (omega (arith, start .fits .budget)) _ _ _ _ _ _ _ _ _ _ (e .ensures)))
 
 cast-t37 : tie.Need-cast-t37
 cast-t37 c =
