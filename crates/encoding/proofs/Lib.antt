@@ -1,1 +1,1 @@
-pub mod ValueLaws
+pub mod ValueTests

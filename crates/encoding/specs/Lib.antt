@@ -8,5 +8,6 @@ pub mod CodeLaws
 pub mod PositionLaws
 pub mod HoldLaws
 pub mod Values
+pub mod ValueLaws
 pub mod Standing
 pub mod TruthLaws

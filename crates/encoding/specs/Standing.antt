@@ -8,15 +8,20 @@ use Rattle.definitions.specs.Lists.{_∈_}
 use Rattle.definitions.specs.Words.{Atom, Literal, plain, Problem}
 use Rattle.definitions.specs.Search.{Trail, isTrue, isFalse}
 use Rattle.theory.specs.Limits.{LiteralLimits}
-use Rattle.encoding.specs.Encoding.{atomCode, position}
+use Rattle.encoding.specs.Encoding.{atomCode, position, literalWord}
+use Rattle.encoding.specs.Values.{Value, unsetValue, trueValue, falseValue, valueAt, trueWord}
 
--- a literal's truth as a value: 1 true, 2 false, 0 unset
-unfoldable pub truth : Trail → Literal → ℕ
-truth t l = elim (isTrue t l) [ true ↦ 1 | false ↦ elim (isFalse t l) [ true ↦ 2 | false ↦ 0 ] ]
+-- a literal's truth as a value
+unfoldable pub truth : Trail → Literal → Value
+truth t l = elim (isTrue t l) [ true ↦ trueValue | false ↦ elim (isFalse t l) [ true ↦ falseValue | false ↦ unsetValue ] ]
 
 -- the values are those of the trail, for every atom of the table
 abbrev pub Valued : List Atom → Trail → List ℕ → Type 0
-Valued table t values = (a : Atom) → a ∈ table → getD values (position table a) 0 ≡ truth t (plain a)
+Valued table t values = (a : Atom) → a ∈ table → valueAt values (position table a) ≡ truth t (plain a)
+
+-- a literal of the table is true just where its word is
+abbrev pub TrueWords : List Atom → Trail → List ℕ → Type 0
+TrueWords table t values = (l : Literal) → l .atom ∈ table → trueWord values (literalWord table l) ≡ isTrue t l
 
 -- the index finds every atom of the sheet's symbols and constants that is in the table, and no other
 pub record IndexStands (p : Problem) (table : List Atom) (index : List ℕ) : Type 0 where

@@ -1,23 +1,29 @@
-// Values of literals by table position.
+// The states of atoms by table position, and what they say of a literal. The numbers are this module's alone.
 ghost use mathlib.Core.Path.{_≡_};
 ghost use Prim.Native.Nat.{_<_};
-ghost use Rattle.encoding.specs.Values.{opposite, literalValue};
+ghost use Rattle.encoding.specs.Values.{opposite, unsetAt, literalValue, trueWord, falseWord, assigned, unassigned};
 use crate::ATOMS;
 use crate::wide;
+
+pub const UNSET: u8 = 0;
+
+pub const TRUE: u8 = 1;
+
+pub const FALSE: u8 = 2;
 
 fn negated(v: u8) -> u8
     ensures { λ r. ⌜ r ≡ opposite v ⌝ }
 {
-    if v == 1 {
-        return 2;
+    if v == TRUE {
+        return FALSE;
     }
-    if v == 2 {
-        return 1;
+    if v == FALSE {
+        return TRUE;
     }
-    0
+    UNSET
 }
 
-// The value of a literal: 0 unset, 1 true, 2 false.
+// The value of a literal.
 pub fn value(values: &[u8; ATOMS], w: u16) -> u8
     requires { ⌜ w < 512 ⌝ }
     ensures { λ r. ⌜ r ≡ literalValue (now (values .entry)) w ⌝ }
@@ -29,4 +35,45 @@ pub fn value(values: &[u8; ATOMS], w: u16) -> u8
         return v;
     }
     negated(v)
+}
+
+pub fn is_true(values: &[u8; ATOMS], w: u16) -> bool
+    requires { ⌜ w < 512 ⌝ }
+    ensures { λ r. ⌜ r ≡ trueWord (now (values .entry)) w ⌝ }
+{
+    value(values, w) == TRUE
+}
+
+pub fn is_false(values: &[u8; ATOMS], w: u16) -> bool
+    requires { ⌜ w < 512 ⌝ }
+    ensures { λ r. ⌜ r ≡ falseWord (now (values .entry)) w ⌝ }
+{
+    value(values, w) == FALSE
+}
+
+// Whether the atom at a position is unset.
+pub fn is_unset(values: &[u8; ATOMS], at: usize) -> bool
+    requires { ⌜ at < 256 ⌝ }
+    ensures { λ r. ⌜ r ≡ unsetAt (now (values .entry)) at ⌝ }
+{
+    values[at] == UNSET
+}
+
+// Sets a literal.
+pub fn assign(values: &mut [u8; ATOMS], w: u16)
+    requires { ⌜ w < 512 ⌝ }
+    ensures { λ _. ⌜ now (values .exit) ≡ assigned (now (values .entry)) w ⌝ }
+{
+    let word = wide(w);
+    let at = word / 2;
+    values[at] = TRUE + (word % 2) as u8;
+}
+
+// Unsets its atom.
+pub fn unassign(values: &mut [u8; ATOMS], w: u16)
+    requires { ⌜ w < 512 ⌝ }
+    ensures { λ _. ⌜ now (values .exit) ≡ unassigned (now (values .entry)) w ⌝ }
+{
+    let at = wide(w) / 2;
+    values[at] = UNSET;
 }

@@ -1,5 +1,5 @@
 -- `values::negated` meets its contract, by its tests. Assumes nothing.
-use Rattle.encoding.proofs.ValueLaws.{opposite-true, opposite-false, opposite-unset}
+use Rattle.encoding.proofs.ValueTests.{opposite-true, opposite-false, opposite-unset}
 use Rattle.encoding.proofs.values.negated.Statement.{statement}
 use Rattle.encoding.proofs.values.negated.Tie as tie
 

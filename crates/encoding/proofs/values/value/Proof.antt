@@ -1,6 +1,6 @@
 -- `values::value` meets its contract, by the word's sign. Assumes nothing.
 use borrow.Author.Needs.{needs}
-use Rattle.encoding.proofs.ValueLaws.{value-plain, value-negated}
+use Rattle.encoding.proofs.ValueTests.{value-plain, value-negated}
 use Rattle.encoding.proofs.values.value.Statement.{statement}
 use Rattle.encoding.proofs.values.value.Tie as tie
 

@@ -1,0 +1,79 @@
+-- The states of atoms once a literal is set or unset, and the value of a literal by its atom's. Assumes nothing.
+use Prim.Native.Nat.{ℕ, _+_, _*_, _/_, _%_, _<_}
+use mathlib.Core.Path.{_≡_, _∙_, ap}
+use mathlib.Core.List.{List}
+use native.Mathlib.Omega.{arith}
+use lib.Dec.{eqb}
+use lib.ListN.{length, length-set}
+use lib.Seq.{getD-set-same, getD-set-other, set-comm}
+use borrow.Author.Tests.{eqb-true, eqb-false}
+use Rattle.theory.specs.Tests.{by-test}
+use Rattle.encoding.specs.ArrayLaws.{getD-zeros}
+use Rattle.encoding.specs.Values.{unsetValue, trueValue, falseValue, opposite, valueAt, literalValue, noValues, assigned, unassigned}
+
+-- ── a literal's value ──
+
+module _ (values : List ℕ) (p : ℕ) where
+  pub value-even : literalValue values (2 * p) ≡ valueAt values p
+  unfolding literalValue
+  value-even =
+      let e : (2 * p) % 2 ≡ 0 = omega arith in
+      let f : (2 * p) / 2 ≡ p = omega arith in
+      cc
+
+  pub value-odd : literalValue values (2 * p + 1) ≡ opposite (valueAt values p)
+  unfolding literalValue
+  value-odd =
+      let e : (2 * p + 1) % 2 ≡ 1 = omega arith in
+      let f : (2 * p + 1) / 2 ≡ p = omega arith in
+      cc
+
+  -- ── setting and unsetting ──
+
+  module _ (inside : p < length values) where
+    pub assigned-even : valueAt (assigned values (2 * p)) p ≡ trueValue
+    unfolding valueAt assigned
+    assigned-even =
+        let e : trueValue + (2 * p) % 2 ≡ trueValue = omega arith in
+        let f : (2 * p) / 2 ≡ p = omega arith in
+        rw (e, f) (getD-set-same values p trueValue unsetValue inside)
+
+    pub assigned-odd : valueAt (assigned values (2 * p + 1)) p ≡ falseValue
+    unfolding valueAt assigned
+    assigned-odd =
+        let e : trueValue + (2 * p + 1) % 2 ≡ falseValue = omega arith in
+        let f : (2 * p + 1) / 2 ≡ p = omega arith in
+        rw (e, f) (getD-set-same values p falseValue unsetValue inside)
+
+    pub unassigned-here : (w : ℕ) → w / 2 ≡ p → valueAt (unassigned values w) p ≡ unsetValue
+    unfolding valueAt unassigned
+    unassigned-here w q = rw q (getD-set-same values p unsetValue unsetValue inside)
+
+  module _ (w : ℕ) (other : w / 2 ≡ p → ⊥) where
+    pub assigned-elsewhere : valueAt (assigned values w) p ≡ valueAt values p
+    unfolding valueAt assigned
+    assigned-elsewhere = getD-set-other values (w / 2) p (trueValue + w % 2) unsetValue (λ q. other (cc))
+
+    pub unassigned-elsewhere : valueAt (unassigned values w) p ≡ valueAt values p
+    unfolding valueAt unassigned
+    unassigned-elsewhere = getD-set-other values (w / 2) p unsetValue unsetValue (λ q. other (cc))
+
+pub length-assigned : (values : List ℕ) (w : ℕ) → length (assigned values w) ≡ length values
+unfolding assigned
+length-assigned values w = length-set values (w / 2) (trueValue + w % 2)
+
+pub length-unassigned : (values : List ℕ) (w : ℕ) → length (unassigned values w) ≡ length values
+unfolding unassigned
+length-unassigned values w = length-set values (w / 2) unsetValue
+
+-- atoms are unset in any order
+pub unassigned-either : (values : List ℕ) (v w : ℕ) → unassigned (unassigned values v) w ≡ unassigned (unassigned values w) v
+unfolding unassigned
+unassigned-either values v w =
+    by-test (eqb (v / 2) (w / 2))
+    (λ e. let q = eqb-true (v / 2) (w / 2) e in rw q)
+    (λ e. set-comm values (v / 2) (w / 2) unsetValue unsetValue (eqb-false (v / 2) (w / 2) e))
+
+pub no-value : (p : ℕ) → valueAt noValues p ≡ unsetValue
+unfolding valueAt
+no-value p = getD-zeros 256 p
