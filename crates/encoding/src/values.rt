@@ -5,13 +5,15 @@ ghost use Rattle.encoding.specs.Values.{opposite, unsetAt, literalValue,
 use crate::ATOMS;
 use crate::wide;
 
-pub const UNSET: u8 = 0;
+pub type Value = u8;
 
-pub const TRUE: u8 = 1;
+pub const UNSET: Value = 0;
 
-pub const FALSE: u8 = 2;
+pub const TRUE: Value = 1;
 
-fn negated(v: u8) -> u8
+pub const FALSE: Value = 2;
+
+fn negated(v: Value) -> Value
     ensures { λ r. ⌜ r ≡ opposite v ⌝ }
 {
     if v == TRUE {
@@ -24,7 +26,7 @@ fn negated(v: u8) -> u8
 }
 
 // The value of a literal.
-pub fn value(values: &[u8; ATOMS], w: u16) -> u8
+pub fn value(values: &[u8; ATOMS], w: u16) -> Value
     requires { ⌜ w < 512 ⌝ }
     ensures { λ r. ⌜ r ≡ literalValue (now (values .entry)) w ⌝ }
 {

@@ -2,30 +2,29 @@
 use Prim.Native.Nat.{ℕ, _+_, _-_, _≤_, _<_}
 use mathlib.Core.Path.{_≡_, refl, _∙_, ap}
 use mathlib.Core.List.{List, [], _∷_}
-use lib.Dec.{eqb}
 use lib.ListN.{length, getD, take, drop}
 use borrow.Author.Tests.{eq-eqb, ne-eqb}
 use Rattle.theory.specs.Tests.{by-test}
-use Rattle.encoding.specs.Values.{literalValue}
+use Rattle.encoding.specs.Values.{Value, trueValue, falseValue, isTrueValue, isFalseValue, literalValue}
 use Rattle.encoding.specs.ArrayLaws.{part-cons, part-nil}
 use Rattle.units.specs.Scan.{unsetToo, seenWith, seenFrom, look}
 use Rattle.units.specs.declared.Seen.{Seen}
 use Rattle.units.specs.declared.Seen.the-variants.{AllFalse, One, Open}
 
 -- one literal more
-module _ (seen : Seen) (w v : ℕ) where
-  pub with-false : v ≡ 2 → seen ≡ seenWith seen w v
-  unfolding seenWith
+module _ (seen : Seen) (w : ℕ) (v : Value) where
+  pub with-false : v ≡ falseValue → seen ≡ seenWith seen w v
+  unfolding seenWith isFalseValue
   with-false e = cc
 
-  pub with-true : (v ≡ 2 → ⊥) → v ≡ 1 → Open ≡ seenWith seen w v
-  unfolding seenWith
+  pub with-true : (v ≡ falseValue → ⊥) → v ≡ trueValue → Open ≡ seenWith seen w v
+  unfolding seenWith isTrueValue isFalseValue
   with-true n e = cc
 
-  module _ (n : v ≡ 2 → ⊥) (m : v ≡ 1 → ⊥) where
+  module _ (n : v ≡ falseValue → ⊥) (m : v ≡ trueValue → ⊥) where
     with-unset : seenWith seen w v ≡ unsetToo seen w
-    unfolding seenWith
-    with-unset = cc (ne-eqb v 2 n, ne-eqb v 1 m)
+    unfolding seenWith isTrueValue isFalseValue
+    with-unset = cc (ne-eqb v falseValue n, ne-eqb v trueValue m)
 
     pub with-first : seen ≡ AllFalse → One w ≡ seenWith seen w v
     unfolding unsetToo
@@ -44,9 +43,9 @@ module _ (seen : Seen) (w v : ℕ) where
     with-open e = cc (with-unset)
 
 -- what is open stays open
-with-stays : (w v : ℕ) → seenWith Open w v ≡ Open
+with-stays : (w : ℕ) (v : Value) → seenWith Open w v ≡ Open
 unfolding seenWith unsetToo
-with-stays w v = by-test (eqb v 2) (λ e. cc) (λ e. by-test (eqb v 1) (λ f. cc) (λ f. cc))
+with-stays w v = by-test (isFalseValue v) (λ e. cc) (λ e. by-test (isTrueValue v) (λ f. cc) (λ f. cc))
 
 open-stays : (values ws : List ℕ) → seenFrom values Open ws ≡ Open
 unfolding seenFrom
@@ -58,7 +57,7 @@ unfolding look
 look-start values ws = refl
 
 module _ (values words : List ℕ) (end i : ℕ) (seen : Seen) {x : Seen} (left : seenFrom values seen (take (end - i) (drop i words)) ≡ x) where
-  module _ (less : i < end) (fits : end ≤ length words) {v : ℕ} {next : Seen} (value : v ≡ literalValue values (getD words i 0)) (joins : next ≡ seenWith seen (getD words i 0) v) where
+  module _ (less : i < end) (fits : end ≤ length words) {v : Value} {next : Seen} (value : v ≡ literalValue values (getD words i 0)) (joins : next ≡ seenWith seen (getD words i 0) v) where
     pub look-turn : seenFrom values next (take (end - (i + 1)) (drop (i + 1) words)) ≡ x
     unfolding seenFrom
     look-turn = cc (part-cons words end i less fits)

@@ -1,31 +1,28 @@
 -- The loops over the trail, turn by turn: what is left to do comes to what all of it came to. Assumes nothing.
-use Prim.Native.Nat.{ℕ, suc, _+_, _-_, _/_, _%_, _<_, _≤_}
+use Prim.Native.Nat.{ℕ, suc, _+_, _-_, _<_, _≤_}
 use mathlib.Core.Path.{_≡_, sym, _∙_, ap}
+use mathlib.Core.Bool.{Bool, true, false}
 use mathlib.Core.List.{List}
 use native.Mathlib.Omega.{arith}
-use lib.ListN.{length, getD, set, take, drop}
+use lib.ListN.{length, getD, take, drop}
 use borrow.Author.Tests.{eq-eqb, ne-eqb}
+use Rattle.definitions.specs.Search.{decided}
 use Rattle.encoding.specs.ArrayLaws.{part-cons, part-nil}
-use Rattle.units.specs.TrailWords.{latestDecision, cleared, firstUnset}
-
--- a word that is widened is the same word
-pub set-value : (values : List ℕ) (v w : ℕ) → v ≡ w → set values (v / 2) (v % 2 + 1) ≡ set values (w / 2) (1 + w % 2)
-set-value values v w q =
-    let e : v % 2 + 1 ≡ 1 + w % 2 = omega arith in
-    rw (e, q)
+use Rattle.encoding.specs.Values.{unsetAt, unassigned}
+use Rattle.units.specs.TrailWords.{markOf, latestDecision, cleared, firstUnset}
 
 module _ (marks : List ℕ) {x : ℕ} where
-  pub decision-hit : (i : ℕ) → 0 < i → getD marks (i - 1) 0 ≡ 1 → latestDecision marks i ≡ x → i ≡ x
+  pub decision-hit : (i : ℕ) → 0 < i → getD marks (i - 1) 0 ≡ markOf decided → latestDecision marks i ≡ x → i ≡ x
   unfolding latestDecision
   decision-hit i h q e =
       let f : i ≡ suc (i - 1) = omega arith in
-      f ∙ (rw (eq-eqb (getD marks (i - 1) 0) 1 q, latestDecision) at (ap (latestDecision marks) (sym f) ∙ e))
+      f ∙ (rw (eq-eqb (getD marks (i - 1) 0) (markOf decided) q, latestDecision) at (ap (latestDecision marks) (sym f) ∙ e))
 
-  pub decision-turn : (i : ℕ) → 0 < i → (getD marks (i - 1) 0 ≡ 1 → ⊥) → latestDecision marks i ≡ x → latestDecision marks (i - 1) ≡ x
+  pub decision-turn : (i : ℕ) → 0 < i → (getD marks (i - 1) 0 ≡ markOf decided → ⊥) → latestDecision marks i ≡ x → latestDecision marks (i - 1) ≡ x
   unfolding latestDecision
   decision-turn i h q e =
       let f : i ≡ suc (i - 1) = omega arith in
-      rw (ne-eqb (getD marks (i - 1) 0) 1 q, latestDecision) at (ap (latestDecision marks) (sym f) ∙ e)
+      rw (ne-eqb (getD marks (i - 1) 0) (markOf decided) q, latestDecision) at (ap (latestDecision marks) (sym f) ∙ e)
 
   pub decision-end : (i : ℕ) → i ≤ 0 → latestDecision marks i ≡ x → 0 ≡ x
   unfolding latestDecision
@@ -35,18 +32,18 @@ module _ (values : List ℕ) (n : ℕ) where
   pub unset-start : firstUnset values 0 (n - 0) ≡ firstUnset values 0 n
   unset-start = let f : n - 0 ≡ n = omega arith in ap (firstUnset values 0) f
 
-  pub unset-hit : (i : ℕ) {x : ℕ} → i < n → getD values i 0 ≡ 0 → firstUnset values i (n - i) ≡ x → i ≡ x
+  pub unset-hit : (i : ℕ) {x : ℕ} → i < n → {b : Bool} → b ≡ unsetAt values i → b ≡ true → firstUnset values i (n - i) ≡ x → i ≡ x
   unfolding firstUnset
-  unset-hit i h q e =
+  unset-hit i h its q e =
       let f : n - i ≡ suc (n - (i + 1)) = omega arith in
-      rw (eq-eqb (getD values i 0) 0 q, firstUnset) at (ap (firstUnset values i) (sym f) ∙ e)
+      rw (sym its ∙ q, firstUnset) at (ap (firstUnset values i) (sym f) ∙ e)
 
-  pub unset-turn : (i : ℕ) {x : ℕ} → i < n → (getD values i 0 ≡ 0 → ⊥) → firstUnset values i (n - i) ≡ x → firstUnset values (i + 1) (n - (i + 1)) ≡ x
+  pub unset-turn : (i : ℕ) {x : ℕ} → i < n → {b : Bool} → b ≡ unsetAt values i → b ≡ false → firstUnset values i (n - i) ≡ x → firstUnset values (i + 1) (n - (i + 1)) ≡ x
   unfolding firstUnset
-  unset-turn i {x = x} h q e =
+  unset-turn i {x = x} h its q e =
       let f : n - i ≡ suc (n - (i + 1)) = omega arith in
       let g : i + 1 ≡ suc i = omega arith in
-      let r : firstUnset values (suc i) (n - (i + 1)) ≡ x = rw (ne-eqb (getD values i 0) 0 q, firstUnset) at (ap (firstUnset values i) (sym f) ∙ e) in
+      let r : firstUnset values (suc i) (n - (i + 1)) ≡ x = rw (sym its ∙ q, firstUnset) at (ap (firstUnset values i) (sym f) ∙ e) in
       ap (λ (k : ℕ). firstUnset values k (n - (i + 1))) g ∙ r
 
   pub unset-end : (i : ℕ) {x : ℕ} → n ≤ i → firstUnset values i (n - i) ≡ x → i ≡ x
@@ -54,10 +51,10 @@ module _ (values : List ℕ) (n : ℕ) where
   unset-end i h e = let f : n - i ≡ 0 = omega arith in rw (f, firstUnset) at e
 
 module _ (trail : List ℕ) (n : ℕ) where
-  pub undo-turn : (values : List ℕ) (i w : ℕ) {x : List ℕ} → i < n → n ≤ length trail → w ≡ getD trail i 0
-      → cleared values (take (n - i) (drop i trail)) ≡ x → cleared (set values (w / 2) 0) (take (n - (i + 1)) (drop (i + 1) trail)) ≡ x
+  pub undo-turn : (values : List ℕ) (i : ℕ) {x next : List ℕ} → i < n → n ≤ length trail → next ≡ unassigned values (getD trail i 0)
+      → cleared values (take (n - i) (drop i trail)) ≡ x → cleared next (take (n - (i + 1)) (drop (i + 1) trail)) ≡ x
   unfolding cleared
-  undo-turn values i w h k q e =
+  undo-turn values i h k q e =
       rw q (rw (part-cons trail n i h k, cleared) at e)
 
   pub undo-end : (values : List ℕ) (i : ℕ) {x : List ℕ} → n ≤ i → cleared values (take (n - i) (drop i trail)) ≡ x → values ≡ x

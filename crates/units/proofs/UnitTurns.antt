@@ -1,18 +1,17 @@
 -- Step A in the code's terms: the loop over a logged clause's heads, what may be set, and the loop over the clauses. Assumes nothing.
 use Prim.Native.Nat.{ℕ, suc, _+_, _-_, _*_, _≤_, _<_}
 use mathlib.Core.Path.{_≡_, sym, _∙_, ap}
-use mathlib.Core.Bool.{Bool, true, false, _&&_}
+use mathlib.Core.Bool.{Bool, true, false, not, _&&_}
 use mathlib.Core.List.{List}
 use native.Mathlib.Omega.{arith}
-use lib.Dec.{eqb}
 use lib.ListN.{length, getD, take, drop}
-use borrow.Author.Tests.{eq-eqb, ne-eqb, lt-ltb, le-ltb}
+use borrow.Author.Tests.{lt-ltb, le-ltb}
 use Rattle.definitions.specs.Lists.{all}
-use Rattle.encoding.specs.Values.{literalValue}
+use Rattle.theory.specs.Tests.{not-true, not-false}
+use Rattle.encoding.specs.Values.{falseWord}
 use Rattle.encoding.specs.ArrayLaws.{part-cons, part-nil, getD-rising}
 use Rattle.units.specs.Scan.{look}
 use Rattle.units.specs.Units.{clauseAt, maySet, actAt, actFrom, ClausesFit}
-use Rattle.units.specs.UnitLaws.{allFalse}
 use Rattle.units.specs.declared.Seen.{Seen}
 use Rattle.units.specs.declared.Seen.the-variants.{AllFalse, One, Open}
 use Rattle.units.specs.declared.Act.{Act}
@@ -21,20 +20,20 @@ use Rattle.units.specs.declared.Act.the-variants.{Conflict, Force, Nothi
 -- ── the loop over words ──
 
 pub false-start : (values words : List ℕ) (from count : ℕ)
-    → allFalse values (take (from + count - from) (drop from words)) ≡ allFalse values (take count (drop from words))
+    → all (falseWord values) (take (from + count - from) (drop from words)) ≡ all (falseWord values) (take count (drop from words))
 false-start values words from count = let e : from + count - from ≡ count = omega arith in rw e
 
-module _ (values words : List ℕ) (end i : ℕ) {b : Bool} (left : allFalse values (take (end - i) (drop i words)) ≡ b) where
-  module _ (less : i < end) (fits : end ≤ length words) {v : ℕ} (value : v ≡ literalValue values (getD words i 0)) where
-    first : (eqb v 2 && allFalse values (take (end - (i + 1)) (drop (i + 1) words))) ≡ b
+module _ (values words : List ℕ) (end i : ℕ) {b : Bool} (left : all (falseWord values) (take (end - i) (drop i words)) ≡ b) where
+  module _ (less : i < end) (fits : end ≤ length words) {r : Bool} (value : r ≡ falseWord values (getD words i 0)) where
+    first : (r && all (falseWord values) (take (end - (i + 1)) (drop (i + 1) words))) ≡ b
     unfolding all
-    first = rw value (sym (ap (allFalse values) (part-cons words end i less fits)) ∙ left)
+    first = rw value (sym (ap (all (falseWord values)) (part-cons words end i less fits)) ∙ left)
 
-    pub false-turn : v ≡ 2 → allFalse values (take (end - (i + 1)) (drop (i + 1) words)) ≡ b
-    false-turn e = rw (eq-eqb v 2 e) at first
+    pub false-turn : not r ≡ false → all (falseWord values) (take (end - (i + 1)) (drop (i + 1) words)) ≡ b
+    false-turn e = rw (not-false r e) at first
 
-    pub false-hit : (v ≡ 2 → ⊥) → false ≡ b
-    false-hit n = rw (ne-eqb v 2 n) at first
+    pub false-hit : not r ≡ true → false ≡ b
+    false-hit n = rw (not-true r n) at first
 
   pub false-end : end ≤ i → true ≡ b
   unfolding all
@@ -81,7 +80,7 @@ module _ (values starts literals heads : List ℕ) (given goals c : ℕ) where
     may-not h l = cc (le-ltb w (2 * goals) (omega arith), lt-ltb c given l)
 
     pub may-heads : {from count : ℕ} {r : Bool} → 2 * goals ≤ word → given ≤ c → from ≡ getD starts c 0 → count ≡ getD heads (c - given) 0
-        → r ≡ allFalse values (take count (drop from literals)) → r ≡ maySet values starts literals heads given goals c w
+        → r ≡ all (falseWord values) (take count (drop from literals)) → r ≡ maySet values starts literals heads given goals c w
     unfolding maySet
     may-heads h l e f q = cc (le-ltb w (2 * goals) (omega arith), le-ltb c given l)
 

@@ -3,7 +3,7 @@ use Prim.Native.Nat.{ℕ}
 use mathlib.Core.Bool.{true, false}
 use mathlib.Core.List.{List, [], _∷_}
 use lib.Dec.{eqb}
-use Rattle.encoding.specs.Values.{literalValue}
+use Rattle.encoding.specs.Values.{Value, isTrueValue, isFalseValue, literalValue}
 use Rattle.units.specs.declared.Seen.{Seen}
 use Rattle.units.specs.declared.Seen.the-variants.{AllFalse, One, Open}
 
@@ -13,8 +13,8 @@ unsetToo AllFalse w = One w
 unsetToo (One x) w = elim (eqb x w) [ true ↦ One x | false ↦ Open ]
 unsetToo Open w = Open
 
-unfoldable pub seenWith : Seen → ℕ → ℕ → Seen
-seenWith seen w v = elim (eqb v 2) [ true ↦ seen | false ↦ elim (eqb v 1) [ true ↦ Open | false ↦ unsetToo seen w ] ]
+unfoldable pub seenWith : Seen → ℕ → Value → Seen
+seenWith seen w v = elim (isFalseValue v) [ true ↦ seen | false ↦ elim (isTrueValue v) [ true ↦ Open | false ↦ unsetToo seen w ] ]
 
 -- the words of a clause, after what was seen already
 unfoldable pub seenFrom : List ℕ → Seen → List ℕ → Seen

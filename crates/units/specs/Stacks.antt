@@ -1,14 +1,16 @@
 -- A list, latest first, in the front of an array, earliest first: pushed, popped and read at its places. And how its words are cleared. Assumes nothing.
-use Prim.Native.Nat.{ℕ, suc, _+_, _-_, _/_, _≤_, _<_}
+use Prim.Native.Nat.{ℕ, suc, _+_, _-_, _≤_, _<_}
 use mathlib.Core.Path.{_≡_, refl, sym, _∙_, ap, subst}
 use mathlib.Core.List.{List, [], _∷_, _++_, map, reverse, reverse-cons, map-append, List·Memᴰ·head, List·Memᴰ·tail}
 use native.Mathlib.Omega.{arith}
 use lib.Dec.{eqb}
-use lib.ListN.{length, getD, set, take, drop, length-take, length-drop, length-set, length-map, length-reverse}
-use lib.Seq.{take-suc, take-at, getD-at, take-take, take-suc-set, getD-take, getD-drop, set-comm}
+use lib.ListN.{length, getD, set, take, drop, length-take, length-drop, length-map, length-reverse}
+use lib.Seq.{take-suc, take-at, getD-at, take-take, take-suc-set, getD-take, getD-drop}
 use borrow.Author.Tests.{eqb-true, eqb-false}
 use Rattle.definitions.specs.Lists.{_∈_}
 use Rattle.theory.specs.Tests.{by-test}
+use Rattle.encoding.specs.Values.{unassigned}
+use Rattle.encoding.specs.ValueLaws.{length-unassigned, unassigned-either}
 use Rattle.units.specs.TrailWords.{cleared}
 
 module _ {A : Type 0} (f : A → ℕ) where
@@ -72,29 +74,23 @@ part-more xs n m h k =
 pub length-cleared : (values ws : List ℕ) → length (cleared values ws) ≡ length values
 unfolding cleared
 length-cleared values [] = refl
-length-cleared values (w ∷ ws) = length-cleared (set values (w / 2) 0) ws ∙ length-set values (w / 2) 0
+length-cleared values (w ∷ ws) = length-cleared (unassigned values w) ws ∙ length-unassigned values w
 
-cleared-last : (values ws : List ℕ) (w : ℕ) → cleared values (ws ++ (w ∷ [])) ≡ set (cleared values ws) (w / 2) 0
+cleared-last : (values ws : List ℕ) (w : ℕ) → cleared values (ws ++ (w ∷ [])) ≡ unassigned (cleared values ws) w
 unfolding cleared
 cleared-last values [] w = refl
-cleared-last values (v ∷ ws) w = cleared-last (set values (v / 2) 0) ws w
+cleared-last values (v ∷ ws) w = cleared-last (unassigned values v) ws w
 
-either-order : (values : List ℕ) (i j : ℕ) → set (set values i 0) j 0 ≡ set (set values j 0) i 0
-either-order values i j =
-    by-test (eqb i j)
-    (λ e. let q = eqb-true i j e in rw q)
-    (λ e. set-comm values i j 0 0 (eqb-false i j e))
-
-cleared-first : (values ws : List ℕ) (i : ℕ) → cleared (set values i 0) ws ≡ set (cleared values ws) i 0
+cleared-first : (values ws : List ℕ) (v : ℕ) → cleared (unassigned values v) ws ≡ unassigned (cleared values ws) v
 unfolding cleared
-cleared-first values [] i = refl
-cleared-first values (w ∷ ws) i = ap (λ (v : List ℕ). cleared v ws) (either-order values i (w / 2)) ∙ cleared-first (set values (w / 2) 0) ws i
+cleared-first values [] v = refl
+cleared-first values (w ∷ ws) v = ap (λ (u : List ℕ). cleared u ws) (unassigned-either values v w) ∙ cleared-first (unassigned values w) ws v
 
 -- clearing a part of the trail, its last place first
 pub cleared-latest : (values trail : List ℕ) (n m : ℕ) {w : ℕ} → n ≤ m → m < length trail → getD trail m 0 ≡ w
-    → cleared values (take (suc m - n) (drop n trail)) ≡ cleared (set values (w / 2) 0) (take (m - n) (drop n trail))
+    → cleared values (take (suc m - n) (drop n trail)) ≡ cleared (unassigned values w) (take (m - n) (drop n trail))
 cleared-latest values trail n m h k q =
     ap (cleared values) (part-more trail n m h k)
     ∙ cleared-last values (take (m - n) (drop n trail)) (getD trail m 0)
-    ∙ sym (cleared-first values (take (m - n) (drop n trail)) (getD trail m 0 / 2))
-    ∙ ap (λ (v : ℕ). cleared (set values (v / 2) 0) (take (m - n) (drop n trail))) q
+    ∙ sym (cleared-first values (take (m - n) (drop n trail)) (getD trail m 0))
+    ∙ ap (λ (v : ℕ). cleared (unassigned values v) (take (m - n) (drop n trail))) q

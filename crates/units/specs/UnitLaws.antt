@@ -22,11 +22,11 @@ use Rattle.encoding.specs.PositionLaws.{position-inside, position-injective, po
 use Rattle.encoding.specs.Signs.{wordOf}
 use Rattle.encoding.specs.Encoding.{position, literalWord, clauseWords}
 use Rattle.theory.specs.PlaceLaws.{getElem-in}
-use Rattle.encoding.specs.Values.{opposite, literalValue}
+use Rattle.encoding.specs.Values.{literalValue, trueWord, falseWord}
 use Rattle.units.specs.Scan.{unsetToo, seenWith, seenFrom, look}
 use Rattle.units.specs.Units.{clauseAt, maySet, actAt, actFrom}
-use Rattle.encoding.specs.Standing.{truth, Valued}
-use Rattle.encoding.specs.TruthLaws.{truth-true, truth-false, truth-unset}
+use Rattle.encoding.specs.Standing.{Valued}
+use Rattle.encoding.specs.TruthLaws.{Consistent, by-truth, true-word, false-word}
 use Rattle.units.specs.ClausesStand.{ClausesStand, actWord}
 use Rattle.units.specs.declared.Seen.{Seen}
 use Rattle.units.specs.declared.Seen.the-variants.{AllFalse, One, Open}
@@ -83,47 +83,6 @@ goal-word k table created l e =
   where
     goals : List Atom
     goals = goalAtoms (k .clauses)
-
--- ── values and the trail ──
-
--- all words are false
-abbrev pub allFalse : List ℕ → List ℕ → Bool
-allFalse values ws = all (λ (x : ℕ). eqb (literalValue values x) 2) ws
-
--- no literal and its negation are both on the trail
-abbrev pub Consistent : Trail → Type 0
-Consistent t = (l : Literal) → isTrue t l ≡ true → isFalse t l ≡ true → ⊥
-
--- a literal is true, false or unset
-pub by-truth : (t : Trail) → Consistent t → (l : Literal) {C : Type 0} → (isTrue t l ≡ true → isFalse t l ≡ false → C) → (isTrue t l ≡ false → isFalse t l ≡ true → C)
-    → (isTrue t l ≡ false → isFalse t l ≡ false → C) → C
-by-truth t consistent l a b c =
-    by-test (isTrue t l)
-    (λ p. by-test (isFalse t l) (λ q. absurd (consistent l p q)) (λ q. a p q))
-    (λ p. by-test (isFalse t l) (λ q. b p q) (λ q. c p q))
-
--- the value of the negation
-pub truth-negate : (t : Trail) → Consistent t → (l : Literal) → opposite (truth t l) ≡ truth t (negate l)
-unfolding opposite isFalse
-truth-negate t consistent l =
-    by-truth t consistent l
-    (λ p q. ap opposite (truth-true t l p) ∙ sym (truth-false t (negate l) q (negated-false t l ∙ p)))
-    (λ p q. ap opposite (truth-false t l p q) ∙ sym (truth-true t (negate l) q))
-    (λ p q. ap opposite (truth-unset t l p q) ∙ sym (truth-unset t (negate l) q (negated-false t l ∙ p)))
-
-value-even : (values : List ℕ) (p : ℕ) → literalValue values (2 * p) ≡ getD values p 0
-unfolding literalValue
-value-even values p =
-    let e : (2 * p) % 2 ≡ 0 = omega arith in
-    let f : (2 * p) / 2 ≡ p = omega arith in
-    cc
-
-value-odd : (values : List ℕ) (p : ℕ) → literalValue values (2 * p + 1) ≡ opposite (getD values p 0)
-unfolding literalValue
-value-odd values p =
-    let e : (2 * p + 1) % 2 ≡ 1 = omega arith in
-    let f : (2 * p + 1) / 2 ≡ p = omega arith in
-    cc
 
 -- ── what the literals of a clause are so far ──
 
@@ -269,25 +228,12 @@ module _ (table : List Atom) (t : Trail) (consistent : Consistent t) where
 -- ── what the words of a clause say ──
 
 module _ (table : List Atom) (t : Trail) (values : List ℕ) (consistent : Consistent t) (valued : Valued table t values) where
-  pub value-truth : (l : Literal) → l .atom ∈ table → literalValue values (literalWord table l) ≡ truth t l
-  value-truth l m =
-      by-test (l .positive)
-      (λ p. ap (literalValue values) (word-positive table l p) ∙ value-even values (position table (l .atom)) ∙ valued (l .atom) m ∙ ap (truth t) (sym (as-plain l p)))
-      (λ p. ap (literalValue values) (word-negative table l p) ∙ value-odd values (position table (l .atom)) ∙ ap opposite (valued (l .atom) m) ∙ truth-negate t consistent (plain (l .atom))
-      ∙ ap (truth t) (sym (as-negated l p)))
-
   -- a head is true just where the word of its negation is false, and so are all heads
-  head-false : (h : Literal) → h .atom ∈ table → eqb (literalValue values (literalWord table (negate h))) 2 ≡ isTrue t h
-  unfolding opposite
-  head-false h m =
-      ap (λ (v : ℕ). eqb v 2) (value-truth (negate h) (Memᴰ·cast (negate-atom h) m) ∙ sym (truth-negate t consistent h))
-      ∙ by-truth t consistent h
-      (λ p q. ap (λ (v : ℕ). eqb (opposite v) 2) (truth-true t h p) ∙ sym p)
-      (λ p q. ap (λ (v : ℕ). eqb (opposite v) 2) (truth-false t h p q) ∙ sym p)
-      (λ p q. ap (λ (v : ℕ). eqb (opposite v) 2) (truth-unset t h p q) ∙ sym p)
+  head-false : (h : Literal) → h .atom ∈ table → falseWord values (literalWord table (negate h)) ≡ isTrue t h
+  head-false h m = false-word table t values valued consistent (negate h) (Memᴰ·cast (negate-atom h) m) ∙ negated-false t h
 
   pub heads-false : (hs : List Literal) → ((h : Literal) → h ∈ hs → h .atom ∈ table)
-      → allFalse values (clauseWords table (map negate hs)) ≡ all (isTrue t) hs
+      → all (falseWord values) (clauseWords table (map negate hs)) ≡ all (isTrue t) hs
   unfolding all clauseWords
   heads-false [] m = refl
   heads-false (h ∷ hs) m = cc (head-false h (m h (List·Memᴰ·head refl)), heads-false hs (λ x n. m x (List·Memᴰ·tail n)))
@@ -295,16 +241,15 @@ module _ (table : List Atom) (t : Trail) (values : List ℕ) (consistent : Consi
   -- one word more, and all words
   seen-more : (c : Clause) (x : Literal) → ((l : Literal) → l ∈ c ++ (x ∷ []) → l .atom ∈ table) → (seen : Seen) → SeenOf table t c seen
       → SeenOf table t (c ++ (x ∷ [])) (seenWith seen (literalWord table x) (literalValue values (literalWord table x)))
-  unfolding seenWith
+  unfolding seenWith trueWord falseWord
   seen-more c x m seen s =
+      let inside = m x (last-in table t c x) in
+      let isT = true-word table t values valued consistent x inside in
+      let isF = false-word table t values valued consistent x inside in
       by-truth t consistent x
-      (λ p q. along (truth-true t x p) (inl (x, last-in table t c x, p)))
-      (λ p q. along (truth-false t x p q) (false-more table t c x q seen s))
-      (λ p q. along (truth-unset t x p q) (unset-more table t c x (unset-of t x p q) m seen s))
-    where
-      along : {v : ℕ} → truth t x ≡ v → SeenOf table t (c ++ (x ∷ [])) (seenWith seen (literalWord table x) v)
-          → SeenOf table t (c ++ (x ∷ [])) (seenWith seen (literalWord table x) (literalValue values (literalWord table x)))
-      along e h = subst (λ (v : ℕ). SeenOf table t (c ++ (x ∷ [])) (seenWith seen (literalWord table x) v)) (sym (value-truth x (m x (last-in table t c x)) ∙ e)) h
+      (λ p q. rw (isF ∙ q, isT ∙ p, seenWith) (inl (x, last-in table t c x, p)))
+      (λ p q. rw (isF ∙ q, seenWith) (false-more table t c x q seen s))
+      (λ p q. rw (isF ∙ q, isT ∙ p, seenWith) (unset-more table t c x (unset-of t x p q) m seen s))
 
   seen-all : (c rest : Clause) → ((l : Literal) → l ∈ c ++ rest → l .atom ∈ table) → (seen : Seen) → SeenOf table t c seen
       → SeenOf table t (c ++ rest) (seenFrom values seen (clauseWords table rest))
@@ -335,12 +280,10 @@ module _ (table : List Atom) (t : Trail) (values : List ℕ) (consistent : Consi
       cases Open q h = cc (h may)
 
   -- where an unset literal's word is among the words, they are not all false
-  not-all : (l : Literal) → l .atom ∈ table → isUnset t l ≡ true → (ws : List ℕ) → literalWord table l ∈ ws → allFalse values ws ≡ false
+  not-all : (l : Literal) → l .atom ∈ table → isUnset t l ≡ true → (ws : List ℕ) → literalWord table l ∈ ws → all (falseWord values) ws ≡ false
   not-all l m u ws n =
-      by-test (allFalse values ws)
-      (λ e. let z : literalValue values (literalWord table l) ≡ 2 = eqb-true _ 2 (all-each (λ (x : ℕ). eqb (literalValue values x) 2) ws e (literalWord table l) n) in
-      let y = truth-unset t l (unset-not-true t l u) (unset-not-false t l u) in
-      absurd (omega (arith, z, y, value-truth l m)))
+      by-test (all (falseWord values) ws)
+      (λ e. true-and-false (all-each (falseWord values) ws e (literalWord table l) n) (false-word table t values valued consistent l m ∙ unset-not-false t l u))
       (λ e. e)
 
 -- ── step A ──
@@ -415,19 +358,19 @@ module _ (k : Task) (s : State) (created : List Atom) (values starts literals he
     its-atoms = entered g (getElem-in (s .log) n g e .1)
 
     -- the first words of the clause are all false just where the heads are all true
-    heads-stand : allFalse values (take (getD heads n 0) (clauseAt starts literals (given + n))) ≡ all (isTrue (s .trail)) (g .instance .heads)
+    heads-stand : all (falseWord values) (take (getD heads n 0) (clauseAt starts literals (given + n))) ≡ all (isTrue (s .trail)) (g .instance .heads)
     heads-stand =
-        ap (allFalse values) (stand .negated n g e)
+        ap (all (falseWord values)) (stand .negated n g e)
         ∙ heads-false (s .table) (s .trail) values consistent valued (g .instance .heads) (λ h m. Memᴰ·cast (sym (negate-atom h)) (its-atoms (negate h) (clause-head g h m)))
 
     -- words that are taken from behind the clause change nothing: its own are then not all false
     heads-taken : (l : Literal) → l ∈ clauseOf g → isUnset (s .trail) l ≡ true
-        → allFalse values (take (getD heads n 0) (drop (getD starts (given + n) 0) literals))
-        ≡ allFalse values (take (getD heads n 0) (clauseAt starts literals (given + n)))
+        → all (falseWord values) (take (getD heads n 0) (drop (getD starts (given + n) 0) literals))
+        ≡ all (falseWord values) (take (getD heads n 0) (clauseAt starts literals (given + n)))
     unfolding clauseAt clauseWords
     heads-taken l m u =
         by-test (leb h size)
-        (λ b. ap (allFalse values) (sym (take-take h size words (leb-true h size b))))
+        (λ b. ap (all (falseWord values)) (sym (take-take h size words (leb-true h size b))))
         (λ b. let less : size ≤ h = omega (arith, leb-false h size b) in
         no (take h words) (take-more words h size _ less inside) ∙ sym (no (take h (take size words)) (rw (take-part words h size less) inside)))
       where
@@ -443,7 +386,7 @@ module _ (k : Task) (s : State) (created : List Atom) (values starts literals he
         inside : literalWord (s .table) l ∈ take size words
         inside = rw (stand .logged n g e) (Memᴰ·map (literalWord (s .table)) m)
 
-        no : (ws : List ℕ) → literalWord (s .table) l ∈ ws → allFalse values ws ≡ false
+        no : (ws : List ℕ) → literalWord (s .table) l ∈ ws → all (falseWord values) ws ≡ false
         no = not-all (s .table) (s .trail) values consistent valued l (its-atoms l m) u
 
     logged-sets : (l : Literal) → l ∈ clauseOf g → isUnset (s .trail) l ≡ true

@@ -2,10 +2,10 @@
 use Prim.Native.Nat.{ℕ, zero, suc, _+_, _-_, _*_, _≤_, _<_}
 use mathlib.Core.Bool.{Bool, true, false, _&&_, _||_, not}
 use mathlib.Core.List.{List}
-use lib.Dec.{eqb, ltb}
+use lib.Dec.{ltb}
 use lib.ListN.{getD, take, drop}
 use Rattle.definitions.specs.Lists.{all}
-use Rattle.encoding.specs.Values.{literalValue}
+use Rattle.encoding.specs.Values.{falseWord}
 use Rattle.units.specs.Scan.{look}
 use Rattle.units.specs.declared.Seen.the-variants.{AllFalse, One, Open}
 use Rattle.units.specs.declared.Act.{Act}
@@ -19,7 +19,7 @@ clauseAt starts literals c = take (getD starts (c + 1) 0 - getD starts c 0) (dro
 unfoldable pub maySet : List ℕ → List ℕ → List ℕ → List ℕ → ℕ → ℕ → ℕ → ℕ → Bool
 maySet values starts literals heads goalClauses goals c w =
     ltb w (2 * goals)
-    || (not (ltb c goalClauses) && all (λ (x : ℕ). eqb (literalValue values x) 2) (take (getD heads (c - goalClauses) 0) (drop (getD starts c 0) literals)))
+    || (not (ltb c goalClauses) && all (falseWord values) (take (getD heads (c - goalClauses) 0) (drop (getD starts c 0) literals)))
 
 -- what clause c asks for
 unfoldable pub actAt : List ℕ → List ℕ → List ℕ → List ℕ → ℕ → ℕ → ℕ → Act

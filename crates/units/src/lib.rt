@@ -4,10 +4,9 @@ pub mod trail; // trail.rt: setting and undoing
 
 ghost use mathlib.Core.Path.{_≡_};
 ghost use Prim.Native.Nat.{ℕ, _+_, _≤_, _<_};
-ghost use lib.Dec.{eqb};
 ghost use lib.ListN.{getD, take, drop};
 ghost use Rattle.definitions.specs.Lists.{all};
-ghost use Rattle.encoding.specs.Values.{literalValue};
+ghost use Rattle.encoding.specs.Values.{falseWord};
 ghost use Rattle.units.specs.Units.{maySet, actAt, actFrom, ClausesFit};
 use encoding::ATOMS;
 use encoding::LITERALS;
@@ -32,15 +31,14 @@ pub enum Act {
 // Whether so many words from a place on are all false.
 fn all_false(values: &[u8; ATOMS], literals: &[u16; LITERALS], from: usize, count: usize) -> bool
     requires { ⌜ (from + count ≤ 2568) × ((i : ℕ) → i < from + count → getD (now literals) i 0 < 512) ⌝ }
-    ensures { λ r. ⌜ r ≡ all (λ (x : ℕ). eqb (literalValue (now (values .entry)) x) 2) (take count (drop from (now (literals .entry)))) ⌝ }
+    ensures { λ r. ⌜ r ≡ all (falseWord (now (values .entry))) (take count (drop from (now (literals .entry)))) ⌝ }
 {
     let words: &[u16] = literals; // the proof knows a slice's length
     let end = from + count;
     let mut i = from;
     while i < end {
         let w = words[i];
-        let v = values::value(values, w);
-        if v != 2 {
+        if !values::is_false(values, w) {
             return false;
         }
         i += 1;

@@ -6,16 +6,17 @@ ghost use Rattle.units.specs.Scan.{seenWith, look};
 use crate::Seen;
 use encoding::ATOMS;
 use encoding::LITERALS;
-use encoding::values::value;
+use encoding::values;
+use encoding::values::Value;
 
 // One literal more of a clause.
-fn seen_with(seen: Seen, w: u16, v: u8) -> Seen
+fn seen_with(seen: Seen, w: u16, v: Value) -> Seen
     ensures { λ r. ⌜ r ≡ seenWith seen w v ⌝ }
 {
-    if v == 2 {
+    if v == values::FALSE {
         return seen;
     }
-    if v == 1 {
+    if v == values::TRUE {
         return Seen::Open;
     }
     match seen {
@@ -35,7 +36,7 @@ pub fn look_at(values: &[u8; ATOMS], literals: &[u16; LITERALS], from: usize, en
     let mut i = from;
     while i < end {
         let w = words[i];
-        let v = value(values, w);
+        let v = values::value(values, w);
         seen = seen_with(seen, w, v);
         if let Seen::Open = seen {
             return Seen::Open;

@@ -1,9 +1,18 @@
 // The trail: what is set, in the order of setting, and what a conflict undoes.
 ghost use mathlib.Core.Path.{_≡_};
-ghost use Prim.Native.Nat.{ℕ, _+_, _-_, _/_, _%_, _≤_, _<_};
+ghost use Prim.Native.Nat.{ℕ, _-_, _≤_, _<_};
 ghost use lib.ListN.{length, getD, set, take, drop};
+ghost use Rattle.encoding.specs.Values.{assigned};
 ghost use Rattle.units.specs.TrailWords.{latestDecision, cleared, firstUnset};
 use encoding::ATOMS;
+use encoding::values;
+
+// Why a literal is set: by a clause, by a decision that stands at true, by one that was set to false.
+pub const FORCED: u8 = 0;
+
+pub const DECIDED: u8 = 1;
+
+pub const FLIPPED: u8 = 2;
 
 // Sets a literal, with why it is set, behind the first n entries.
 pub fn set_literal(
@@ -15,11 +24,9 @@ pub fn set_literal(
     why: u8,
 )
     requires { ⌜ (n < 256) × (w < 512) ⌝ }
-    ensures { λ _. ⌜ (now (values .exit) ≡ set (now (values .entry)) (w / 2) (1 + w % 2)) × (now (trail .exit) ≡ set (now (trail .entry)) n w) × (now (marks .exit) ≡ set (now (marks .entry)) n why) ⌝ }
+    ensures { λ _. ⌜ (now (values .exit) ≡ assigned (now (values .entry)) w) × (now (trail .exit) ≡ set (now (trail .entry)) n w) × (now (marks .exit) ≡ set (now (marks .entry)) n why) ⌝ }
 {
-    let word = encoding::wide(w);
-    let at = word / 2;
-    values[at] = (word % 2) as u8 + 1;
+    values::assign(values, w);
     trail[n] = w;
     marks[n] = why;
 }
@@ -32,7 +39,7 @@ pub fn latest_decision(marks: &[u8; ATOMS], n: usize) -> usize
     let mut i = n;
     while 0 < i {
         let top = i - 1;
-        if marks[top] == 1 {
+        if marks[top] == DECIDED {
             return i;
         }
         i = top;
@@ -47,8 +54,8 @@ pub fn undo(values: &mut [u8; ATOMS], trail: &[u16; ATOMS], from: usize, n: usiz
 {
     let mut i = from;
     while i < n {
-        let at = encoding::wide(trail[i]) / 2;
-        values[at] = 0;
+        let w = trail[i];
+        values::unassign(values, w);
         i += 1;
     }
 }
@@ -60,7 +67,7 @@ pub fn first_unset(values: &[u8; ATOMS], goals: usize) -> usize
 {
     let mut i: usize = 0;
     while i < goals {
-        if values[i] == 0 {
+        if values::is_unset(values, i) {
             return i;
         }
         i += 1;

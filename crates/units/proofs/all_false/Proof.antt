@@ -3,14 +3,15 @@ use Prim.Native.Nat.{_-_, _≤_}
 use mathlib.Core.Path.{_≡_}
 use native.Mathlib.Omega.{arith}
 use lib.ListN.{take, drop}
-use Rattle.units.specs.UnitLaws.{allFalse}
+use Rattle.definitions.specs.Lists.{all}
+use Rattle.encoding.specs.Values.{falseWord}
 use Rattle.units.proofs.UnitTurns.{false-start, false-turn, false-hit, false-end}
 use Rattle.units.proofs.all_false.Statement.{statement}
 use Rattle.units.proofs.all_false.Tie as tie
 
 abbrev Inv-loop : tie.InvT-loop
 Inv-loop values literals from count words end i₀ i =
-    (i ≤ end) × (allFalse values (take (end - i) (drop i words)) ≡ allFalse values (take count (drop from words)))
+    (i ≤ end) × (all (falseWord values) (take (end - i) (drop i words)) ≡ all (falseWord values) (take count (drop from words)))
 
 abbrev μ-loop : tie.MeasureT-loop
 μ-loop values literals from count words end i₀ i = end - i
@@ -29,8 +30,8 @@ mul-w c = omega arith
 shared-slice-read-w : tie.Need-shared-slice-read-w Inv-loop μ-loop
 shared-slice-read-w c = omega arith
 
-value-requires : tie.Need-value-requires Inv-loop μ-loop
-value-requires c κs = c .before .before .before .before .pre .1 (c .before .before .loop .i) (c .before .loop-test .taken)
+is-false-requires : tie.Need-is-false-requires Inv-loop μ-loop
+is-false-requires c κs = c .before .before .before .before .pre .1 (c .before .before .loop .i) (c .before .loop-test .taken)
 
 returns : tie.Need-returns Inv-loop μ-loop
 returns c =
@@ -38,7 +39,7 @@ returns c =
     (c .before .before .before .before .loop .inv .1)
     (c .before .before .before .loop-test .taken)
     (omega arith)
-    (c .before .value .ensures)
+    (c .before .is-false .ensures)
     (c .if1 .taken)
 
 add-i : tie.Need-add-i Inv-loop μ-loop
@@ -54,7 +55,7 @@ loop-again c = (
       (c .before .before .before .before .loop .inv .1)
       (c .before .before .before .loop-test .taken)
       (omega arith)
-      (c .before .value .ensures)
+      (c .before .is-false .ensures)
       (c .if1 .left),
 )
 
@@ -71,7 +72,7 @@ all-false-spec =
     loop-holds
     mul-w
     shared-slice-read-w
-    value-requires
+    is-false-requires
     returns
     add-i
     loop-less

@@ -16,11 +16,11 @@ abbrev μ-loop : tie.MeasureT-loop
 loop-holds : tie.Need-loop-holds Inv-loop μ-loop
 loop-holds c = (search needs, unset-start _ _)
 
-element-copy-out-if1 : tie.Need-element-copy-out-if1 Inv-loop μ-loop
-element-copy-out-if1 c = search needs
+is-unset-requires : tie.Need-is-unset-requires Inv-loop μ-loop
+is-unset-requires c κs = search needs
 
 returns : tie.Need-returns Inv-loop μ-loop
-returns c = unset-hit _ _ _ (c .before .before .loop-test .taken) (c .if1 .taken) (c .before .before .before .loop .inv .1)
+returns c = unset-hit _ _ _ (c .before .before .loop-test .taken) (c .before .is-unset .ensures) (c .if1 .taken) (c .before .before .before .loop .inv .1)
 
 add-i : tie.Need-add-i Inv-loop μ-loop
 add-i c = search needs
@@ -29,7 +29,7 @@ loop-less : tie.Need-loop-less Inv-loop μ-loop
 loop-less c = search needs
 
 loop-again : tie.Need-loop-again Inv-loop μ-loop
-loop-again c = (search needs, unset-turn _ _ _ (c .before .before .loop-test .taken) (c .if1 .left) (c .before .before .before .loop .inv .1))
+loop-again c = (search needs, unset-turn _ _ _ (c .before .before .loop-test .taken) (c .before .is-unset .ensures) (c .if1 .left) (c .before .before .before .loop .inv .1))
 
 returns-2 : tie.Need-returns-2 Inv-loop μ-loop
 returns-2 c = unset-end _ _ _ (c .loop-test .left) (c .before .loop .inv .1)
@@ -41,7 +41,7 @@ first-unset-spec =
     Inv-loop
     μ-loop
     loop-holds
-    element-copy-out-if1
+    is-unset-requires
     returns
     add-i
     loop-less
