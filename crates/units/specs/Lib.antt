@@ -1,8 +1,11 @@
 pub mod Scan
 pub mod Units
 pub mod ClausesStand
+pub mod LiteralWords
+pub mod ScanLaws
 pub mod UnitLaws
 pub mod TrailWords
-pub mod LiteralWords
 pub mod Stacks
 pub mod TrailLaws
+pub mod BacktrackLaws
+pub mod FirstUnset

@@ -1,15 +1,17 @@
 -- The words of literals: two numbers for each atom, by its position. Assumes nothing.
-use Prim.Native.Nat.{ℕ, _+_, _*_, _/_, _%_, _≤_, _<_}
-use mathlib.Core.Path.{_≡_, refl, ap}
-use mathlib.Core.Bool.{Bool, true, false, not}
+use Prim.Native.Nat.{_+_, _*_, _/_, _%_, _≤_, _<_}
+use mathlib.Core.Path.{_≡_, refl, sym, _∙_, ap}
+use mathlib.Core.Bool.{true, false, not}
 use mathlib.Core.List.{List}
 use native.Mathlib.Omega.{arith}
 use lib.ListN.{length}
 use Rattle.definitions.specs.Lists.{_∈_}
+use Rattle.theory.specs.Tests.{by-test}
+use Rattle.theory.specs.WordLaws.{literal-ext}
 use Rattle.definitions.specs.Words.{Atom, Literal, negate, plain}
 use Rattle.encoding.specs.Signs.{wordOf, wordOf-half}
 use Rattle.encoding.specs.Encoding.{position, literalWord}
-use Rattle.encoding.specs.PositionLaws.{position-inside}
+use Rattle.encoding.specs.PositionLaws.{position-inside, position-injective}
 
 module _ (table : List Atom) where
   pub word-plain : (a : Atom) → literalWord table (plain a) ≡ 2 * position table a
@@ -20,18 +22,38 @@ module _ (table : List Atom) where
   unfolding literalWord wordOf plain negate
   word-negated a = refl
 
-  word-below : (b : Bool) (n : ℕ) → wordOf b n < 2 * n + 2
-  unfolding wordOf
-  word-below true n = omega arith
-  word-below false n = omega arith
+  -- the parts of a word: the position, and the sign
+  pub word-positive : (l : Literal) → l .positive ≡ true → literalWord table l ≡ 2 * position table (l .atom)
+  unfolding literalWord wordOf
+  word-positive l e = cc
+
+  pub word-negative : (l : Literal) → l .positive ≡ false → literalWord table l ≡ 2 * position table (l .atom) + 1
+  unfolding literalWord wordOf
+  word-negative l e = cc
+
+  -- words of different literals differ
+  pub word-injective : (l m : Literal) → l .atom ∈ table → m .atom ∈ table → literalWord table l ≡ literalWord table m → l ≡ m
+  word-injective l m j k e =
+      by-test (l .positive)
+      (λ p. by-test (m .positive)
+      (λ q. literal-ext (p ∙ sym q) (position-injective table (l .atom) (m .atom) j k (omega (arith, word-positive l p, word-positive m q))))
+      (λ q. absurd (omega (arith, word-positive l p, word-negative m q))))
+      (λ p. by-test (m .positive)
+      (λ q. absurd (omega (arith, word-negative l p, word-positive m q)))
+      (λ q. literal-ext (p ∙ sym q) (position-injective table (l .atom) (m .atom) j k (omega (arith, word-negative l p, word-negative m q)))))
+
+  pub word-near : (l : Literal) → (2 * position table (l .atom) ≤ literalWord table l) × (literalWord table l ≤ 2 * position table (l .atom) + 1)
+  word-near l =
+      by-test (l .positive)
+      (λ p. (omega (arith, word-positive l p), omega (arith, word-positive l p)))
+      (λ p. (omega (arith, word-negative l p), omega (arith, word-negative l p)))
 
   pub word-half : (l : Literal) → literalWord table l / 2 ≡ position table (l .atom)
   unfolding literalWord
   word-half l = wordOf-half (not (l .positive)) (position table (l .atom))
 
   pub word-small : (l : Literal) → length table ≤ 256 → l .atom ∈ table → literalWord table l < 512
-  unfolding literalWord
-  word-small l h m = omega (arith, word-below (not (l .positive)) (position table (l .atom)), position-inside table (l .atom) m)
+  word-small l h m = omega (arith, word-near l, position-inside table (l .atom) m)
 
   -- the word of a positive literal is even, and the next one is its negation's
   pub word-even : (l : Literal) → l ≡ plain (l .atom) → literalWord table l % 2 ≡ 0

@@ -1,30 +1,27 @@
 -- The arrays stand for the trail through every step of the search: each step sets or clears a few places, and what stands there is what the new trail says. Assumes nothing.
-use Prim.Native.Nat.{ℕ, suc, _+_, _-_, _/_, _%_, _≤_, _<_}
+use Prim.Native.Nat.{ℕ, _+_, _-_, _/_, _≤_, _<_}
 use mathlib.Core.Path.{_≡_, refl, sym, _∙_, ap, subst}
 use mathlib.Core.Logic.{inl, inr}
 use mathlib.Core.Bool.{true, false}
-use mathlib.Core.Option.{none, some}
-use mathlib.Core.List.{List, [], _∷_, _++_, map, append-assoc, List·Memᴰ·head, List·Memᴰ·tail, List·Memᴰ·cases-cons, List·Memᴰ·append-cases, List·Memᴰ·eq-of-singleton, List·Memᴰ·not-nil, Memᴰ·append-left, Memᴰ·append-right, Memᴰ·cast, Memᴰ·map, Memᴰ·of-map}
+use mathlib.Core.List.{List, [], _∷_, _++_, map, List·Memᴰ·head, List·Memᴰ·tail, List·Memᴰ·append-cases, List·Memᴰ·eq-of-singleton, List·Memᴰ·not-nil, Memᴰ·cast, Memᴰ·map, Memᴰ·of-map}
 use native.Mathlib.Omega.{arith}
-use lib.Dec.{eqb}
 use lib.ListN.{length, getD, set, take, drop, length-append}
-use lib.Seq.{append-snoc}
-use Rattle.definitions.specs.Lists.{_∈_, any, firstOf}
+use Rattle.definitions.specs.Lists.{_∈_, any}
 use Rattle.definitions.specs.Words.{Atom, Literal, negate, plain, sameAtom, sameLiteral}
-use Rattle.definitions.specs.Search.{Why, decided, flipped, forced, Entry, Trail, isTrue, isFalse, isUnset, backtrack}
-use Rattle.theory.specs.Tests.{by-test, by-option, apart, true-and-false, none≢some}
-use Rattle.theory.specs.ListLaws.{at-split, in-along, Different, firstOf-in, firstOf-passes}
-use Rattle.theory.specs.WordLaws.{sameAtom-eq, sameAtom-refl, sameLiteral-eq, negate-negate, negate-atom, negate-differs, plain-atom, as-plain, as-negated}
-use Rattle.theory.specs.SearchLaws.{by-why, true-at, at-true, unset-not-false, unset-of}
+use Rattle.definitions.specs.Search.{Why, Entry, Trail, isTrue, isFalse, isUnset}
+use Rattle.theory.specs.Tests.{by-test}
+use Rattle.theory.specs.ListLaws.{Different}
+use Rattle.theory.specs.WordLaws.{sameAtom-eq, sameLiteral-eq, negate-negate, negate-atom, negate-differs, plain-atom, as-plain, as-negated}
+use Rattle.theory.specs.SearchLaws.{true-at, at-true, unset-not-false, unset-of}
 use Rattle.encoding.specs.PositionLaws.{apart-atoms, position-inside, position-injective, position-append, position-behind, literal-word-append}
 use Rattle.encoding.specs.Encoding.{position, literalWord}
-use Rattle.encoding.specs.Values.{unsetValue, valueAt, unsetAt, noValues, assigned, unassigned}
+use Rattle.encoding.specs.Values.{unsetValue, valueAt, noValues, assigned, unassigned}
 use Rattle.encoding.specs.ValueLaws.{assigned-even, assigned-odd, assigned-elsewhere, unassigned-here, unassigned-elsewhere, length-unassigned, no-value}
 use Rattle.encoding.specs.Standing.{truth, Valued}
-use Rattle.encoding.specs.TruthLaws.{truth-true, truth-false, truth-unset, unset-at}
-use Rattle.units.specs.TrailWords.{markOf, latestDecision, cleared, firstUnset, TrailStands}
-use Rattle.units.specs.LiteralWords.{word-plain, word-negated, word-half, word-small, word-even, word-next}
-use Rattle.units.specs.Stacks.{Stacked, push, fits, pop, pop-all, top, each-place, same-words, length-cleared, cleared-latest}
+use Rattle.encoding.specs.TruthLaws.{truth-true, truth-false, truth-unset}
+use Rattle.units.specs.TrailWords.{markOf, cleared, TrailStands}
+use Rattle.units.specs.LiteralWords.{word-plain, word-negated, word-half, word-small}
+use Rattle.units.specs.Stacks.{push, fits, pop, top, each-place, same-words, cleared-latest}
 
 -- ── what a trail says of an atom ──
 
@@ -79,10 +76,10 @@ module _ (table : List Atom) (values : List ℕ) (e : Entry) (t : Trail) (inside
 
 -- ── setting and undoing ──
 
-abbrev entryWord : List Atom → Entry → ℕ
+abbrev pub entryWord : List Atom → Entry → ℕ
 entryWord table e = literalWord table (e .literal)
 
-abbrev entryMark : Entry → ℕ
+abbrev pub entryMark : Entry → ℕ
 entryMark e = markOf (e .why)
 
 -- the arrays have their sizes
@@ -181,187 +178,6 @@ undo-stands {table} (e ∷ above) t {values} {trail} {marks} r s g d =
     let sizes : Room table (unassigned values (literalWord table (e .literal))) trail marks = room-kept r (length-unassigned values (literalWord table (e .literal))) refl refl in
     let long : length t ≤ length rest = omega (arith, length-append above t) in
     rw (cleared-latest values trail (length t) (length rest) long (fits (entryWord table) (e ∷ rest) trail (s .words)) (top (entryWord table) e rest trail (s .words))) (undo-stands above t sizes next (λ c k. g c (List·Memᴰ·tail k)) (d .1))
-
--- ── backtracking ──
-
--- the latest decision, what was set since, and what was set before
-pub record Latest (t u : Trail) : Type 0 where
-  pub since : Trail
-  pub entry : Entry
-  pub before : Trail
-  pub split : t ≡ since ++ (entry ∷ before)
-  pub is : entry .why ≡ decided
-  pub after : u ≡ record { literal = negate (entry .literal); why = flipped } ∷ before
-
-pub find-latest : (t u : Trail) → backtrack t ≡ some u → Latest t u
-unfolding backtrack
-find-latest [] u h = none≢some h
-find-latest (e ∷ t) u h =
-    by-why (e .why)
-    (λ q. record { since = []; entry = e; before = t; split = refl; is = q; after = cc })
-    (λ q. one-more (find-latest t u (cc)))
-    (λ q. one-more (find-latest t u (cc)))
-  where
-    one-more : Latest t u → Latest (e ∷ t) u
-    one-more r = record { since = e ∷ r .since; entry = r .entry; before = r .before; split = ap (λ (x : Trail). e ∷ x) (r .split); is = r .is; after = r .after }
-
--- the marks from the top down, entry by entry
-decision-places : (marks : List ℕ) (t : Trail) → Stacked entryMark t marks
-    → (backtrack t ≡ none → latestDecision marks (length t) ≡ 0) × ((u : Trail) → backtrack t ≡ some u → latestDecision marks (length t) ≡ length u)
-unfolding latestDecision backtrack
-decision-places marks [] s = (λ h. refl, λ u h. none≢some h)
-decision-places marks (e ∷ t) s =
-    let mark = top entryMark e t marks s in
-    let below = decision-places marks t (pop entryMark e t marks s) in
-    by-why (e .why)
-    (λ q. let hit : eqb (getD marks (length t) 0) (markOf decided) ≡ true = cc in (λ h. apart (cc), λ u h. let z : u ≡ record { literal = negate (e .literal); why = flipped } ∷ t = cc in rw z (cc)))
-    (λ q. let miss : eqb (getD marks (length t) 0) (markOf decided) ≡ false = cc in (λ h. cc (below .0 (cc)), λ u h. cc (below .1 u (cc))))
-    (λ q. let miss : eqb (getD marks (length t) 0) (markOf decided) ≡ false = cc in (λ h. cc (below .0 (cc)), λ u h. cc (below .1 u (cc))))
-
-different-below : (above t : Trail) → SetOnce (above ++ t) → SetOnce t
-different-below [] t d = d
-different-below (e ∷ above) t d = different-below above t (d .1)
-
--- a decision, which stands at true, is undone with all that was set since, and its atom is set false
-flip-stands : {table : List Atom} (since : Trail) (e : Entry) (before : Trail) {values trail marks : List ℕ} → Room table values trail marks
-    → TrailStands table (since ++ (e ∷ before)) values trail marks → EntriesEntered table (since ++ (e ∷ before)) → SetOnce (since ++ (e ∷ before))
-    → e .literal ≡ plain (e .literal .atom)
-    → TrailStands table (record { literal = negate (e .literal); why = flipped } ∷ before)
-    (assigned (cleared values (take (length (since ++ (e ∷ before)) - length before) (drop (length before) trail))) (literalWord table (e .literal) + 1))
-    (set trail (length before) (literalWord table (e .literal) + 1))
-    (set marks (length before) (markOf flipped))
-flip-stands {table} since e before {values} {trail} {marks} r s g d p =
-    let q = append-snoc since e before in
-    let ws = take (length (since ++ (e ∷ before)) - length before) (drop (length before) trail) in
-    let undone = rw q at (undo-stands (since ++ (e ∷ [])) before r (rw q s) (rw q g) (rw q d)) in
-    let sizes : Room table (cleared values ws) trail marks = room-kept r (length-cleared values ws) refl refl in
-    let new = different-below since (e ∷ before) d .0 in
-    let few : length before < 256 = omega (arith, fits (entryWord table) (since ++ (e ∷ before)) trail (s .words), r .trail-size, length-append since (e ∷ before)) in
-    let w : literalWord table (negate (e .literal)) ≡ literalWord table (e .literal) + 1 = word-next table (e .literal) p in
-    rw w at (set-stands sizes undone (negate (e .literal)) flipped (new-unset before (negate (e .literal)) (rw negate-atom new)) (rw negate-atom (g e (Memᴰ·append-right since (List·Memᴰ·head refl)))) few)
-
--- decisions stand at true
-abbrev pub DecidedTrue : Trail → Type 0
-DecidedTrue t = (e : Entry) → e ∈ t → e .why ≡ decided → e .literal ≡ plain (e .literal .atom)
-
--- the scan over the marks finds no decision just where there is none to undo, and else tells how long the trail is afterwards
-module _ {table : List Atom} {t : Trail} {values trail marks : List ℕ} (s : TrailStands table t values trail marks) where
-  pub backtrack-none-zero : backtrack t ≡ none → latestDecision marks (length t) ≡ 0
-  backtrack-none-zero h = decision-places marks t (s .whys) .0 h
-
-  pub backtrack-some-length : {u : Trail} → backtrack t ≡ some u → latestDecision marks (length t) ≡ length u
-  backtrack-some-length {u} h = decision-places marks t (s .whys) .1 u h
-
-  pub zero-backtrack-none : latestDecision marks (length t) ≡ 0 → backtrack t ≡ none
-  zero-backtrack-none z =
-      by-option (backtrack t)
-      (λ h. h)
-      (λ u h. let y : ⊥ = omega (arith, backtrack-some-length h, ap length (find-latest t u h .after)) in absurd y)
-
--- the decision before place n, whose word is w, is the one that backtracking sets to false; its negation's word is the next
-pub record Backtracked (table : List Atom) (t u : Trail) (values trail marks : List ℕ) (n w : ℕ) : Type 0 where
-  pub positive : 0 < n
-  pub size : length u ≡ n
-  pub within : n ≤ length t
-  pub even : w % 2 ≡ 0
-  pub small : w + 1 < 512
-  pub stands : TrailStands table u (assigned (cleared values (take (length t - (n - 1)) (drop (n - 1) trail))) (w + 1)) (set trail (n - 1) (w + 1)) (set marks (n - 1) (markOf flipped))
-
-pub backtrack-stands : {table : List Atom} {t u : Trail} {values trail marks : List ℕ} {n w : ℕ} → Room table values trail marks → TrailStands table t values trail marks
-    → EntriesEntered table t → SetOnce t → DecidedTrue t → backtrack t ≡ some u → n ≡ latestDecision marks (length t) → w ≡ getD trail (n - 1) 0
-    → Backtracked table t u values trail marks n w
-backtrack-stands {table} {t} {u} {values} {trail} {marks} {n} {w} r s g d p h en ew = back (find-latest t u h) (en ∙ backtrack-some-length s h)
-  where
-    back : Latest t u → n ≡ length u → Backtracked table t u values trail marks n w
-    back f size =
-        let place : n - 1 ≡ length (f .before) = omega (arith, ap length (f .after)) in
-        let m : f .entry ∈ t = in-along (f .split) (at-split (f .since) (f .before)) in
-        let q = p (f .entry) m (f .is) in
-        let s′ = rw (f .split) at s in
-        let word : w ≡ literalWord table (f .entry .literal) = ew ∙ ap (λ (i : ℕ). getD trail i 0) place ∙ top (entryWord table) (f .entry) (f .before) trail (pop-all (entryWord table) (f .since) (f .entry ∷ f .before) trail (s′ .words)) in
-        record {
-          positive = omega (arith, ap length (f .after));
-          size = sym size;
-          within = omega (arith, ap length (f .after), ap length (f .split), length-append (f .since) (f .entry ∷ f .before));
-          even = ap (λ (v : ℕ). v % 2) word ∙ word-even table (f .entry .literal) q;
-          small = omega (arith, word-even table (f .entry .literal) q, word-small table (f .entry .literal) (r .table-size) (g (f .entry) m));
-          stands = rw (place, word, f .after, f .split) (flip-stands (f .since) (f .entry) (f .before) r s′ (rw (f .split) at g) (rw (f .split) at d) q);
-        }
-
--- ── the first unset goal atom ──
-
-module _ (t : Trail) (values : List ℕ) where
-  -- from a place on, just the unset atoms are unset
-  abbrev Row : ℕ → List Atom → Type 0
-  Row at goals = (before after : List Atom) (a : Atom) → goals ≡ before ++ (a ∷ after) → unsetAt values (at + length before) ≡ isUnset t (plain a)
-
-  row-test : (at : ℕ) (b : Atom) (bs : List Atom) → Row at (b ∷ bs) → unsetAt values at ≡ isUnset t (plain b)
-  row-test at b bs h =
-      let e : at ≡ at + 0 = omega arith in
-      ap (unsetAt values) e ∙ h [] bs b refl
-
-  row-tail : (at : ℕ) (b : Atom) (bs : List Atom) → Row at (b ∷ bs) → Row (suc at) bs
-  row-tail at b bs h before after a q =
-      let e : suc at + length before ≡ at + suc (length before) = omega arith in
-      ap (unsetAt values) e ∙ h (b ∷ before) after a (ap (λ (x : List Atom). b ∷ x) q)
-
-  row-some : (at : ℕ) (goals : List Atom) → Row at goals → (a : Atom) → firstOf (λ (x : Atom). isUnset t (plain x)) goals ≡ some a → firstUnset values at (length goals) ≡ at + position goals a
-  unfolding firstOf firstUnset position
-  row-some at [] h a q = none≢some q
-  row-some at (b ∷ bs) h a q =
-      let test = row-test at b bs h in
-      by-test (isUnset t (plain b))
-      (λ e. let z : b ≡ a = cc in
-      let here : position (b ∷ bs) a ≡ 0 = cc (sameAtom-refl a) in
-      let found : firstUnset values at (length (b ∷ bs)) ≡ at = cc in
-      omega (arith, found, here))
-      (λ e. let rest : firstOf (λ (x : Atom). isUnset t (plain x)) bs ≡ some a = cc in
-      let passes = firstOf-passes (λ (x : Atom). isUnset t (plain x)) bs a rest in
-      let onward = row-some (suc at) bs (row-tail at b bs h) a rest in
-      by-test (sameAtom b a)
-      (λ f. true-and-false passes (ap (λ (x : Atom). isUnset t (plain x)) (sym (sameAtom-eq b a f)) ∙ e))
-      (λ f. let there : position (b ∷ bs) a ≡ suc (position bs a) = cc in
-      let passed : firstUnset values at (length (b ∷ bs)) ≡ firstUnset values (suc at) (length bs) = cc in
-      omega (arith, passed, there, onward)))
-
-  row-none : (at : ℕ) (goals : List Atom) → Row at goals → firstOf (λ (x : Atom). isUnset t (plain x)) goals ≡ none → firstUnset values at (length goals) ≡ at + length goals
-  unfolding firstOf firstUnset
-  row-none at [] h q = omega arith
-  row-none at (b ∷ bs) h q =
-      let test = row-test at b bs h in
-      by-test (isUnset t (plain b))
-      (λ e. apart (cc))
-      (λ e. let passed : firstUnset values at (length (b ∷ bs)) ≡ firstUnset values (suc at) (length bs) = cc in
-      omega (arith, passed, row-none (suc at) bs (row-tail at b bs h) (cc)))
-
-not-before : {a : Atom} (before after : List Atom) → Different (before ++ (a ∷ after)) → a ∈ before → ⊥
-not-before [] after d m = List·Memᴰ·not-nil m
-not-before (b ∷ bs) after d m =
-    elim (List·Memᴰ·cases-cons m) [
-      | inl q ↦ d .0 (Memᴰ·cast (sym q) (at-split bs after))
-      | inr n ↦ not-before bs after (d .1) n
-    ]
-
--- the goal atoms stand first in the table
-module _ (goals created : List Atom) (different : Different (goals ++ created)) {t : Trail} {values trail marks : List ℕ} (s : TrailStands (goals ++ created) t values trail marks) where
-  goal-row : Row t values 0 goals
-  goal-row before after a q =
-      let m : a ∈ goals = in-along q (at-split before after) in
-      let d : Different (before ++ (a ∷ (after ++ created))) = rw append-assoc at (rw q at different) in
-      let place : position (goals ++ created) a ≡ length before = position-append goals created a m ∙ ap (λ (l : List Atom). position l a) q ∙ position-behind before after a (not-before before (after ++ created) d) in
-      let e : 0 + length before ≡ position (goals ++ created) a = omega arith in
-      ap (unsetAt values) e ∙ unset-at (goals ++ created) t values (s .valued) a (Memᴰ·append-left created m)
-
-  pub first-unset-some : (a : Atom) → firstOf (λ (x : Atom). isUnset t (plain x)) goals ≡ some a
-      → (firstUnset values 0 (length goals) ≡ position (goals ++ created) a) × (position (goals ++ created) a < length goals)
-  first-unset-some a h =
-      let m = firstOf-in (λ (x : Atom). isUnset t (plain x)) goals a h in
-      let e = row-some t values 0 goals goal-row a h in
-      let k = position-append goals created a m in
-      (omega arith, omega (arith, position-inside goals a m))
-
-  pub first-unset-none : firstOf (λ (x : Atom). isUnset t (plain x)) goals ≡ none → firstUnset values 0 (length goals) ≡ length goals
-  first-unset-none h = omega (arith, row-none t values 0 goals goal-row h)
 
 -- ── the table grows ──
 
