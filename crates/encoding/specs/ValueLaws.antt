@@ -4,7 +4,7 @@ use mathlib.Core.Path.{_≡_}
 use mathlib.Core.List.{List}
 use native.Mathlib.Omega.{arith}
 use lib.Dec.{eqb}
-use lib.ListN.{length, length-set}
+use lib.ListN.{length, length-set, length-replicate}
 use lib.Seq.{getD-set-same, getD-set-other, set-comm}
 use borrow.Author.Tests.{eqb-true, eqb-false}
 use Rattle.theory.specs.Tests.{by-test}
@@ -73,6 +73,9 @@ unassigned-either values v w =
     by-test (eqb (v / 2) (w / 2))
     (λ e. let q = eqb-true (v / 2) (w / 2) e in rw q)
     (λ e. set-comm values (v / 2) (w / 2) unsetValue unsetValue (eqb-false (v / 2) (w / 2) e))
+
+pub length-none : length noValues ≡ 256
+length-none = length-replicate {A = ℕ} 256 unsetValue
 
 pub no-value : (p : ℕ) → valueAt noValues p ≡ unsetValue
 unfolding valueAt

@@ -1,5 +1,5 @@
 -- The bytes of the listing in parts: what one call puts, and what is left to the calls behind it. Assumes nothing.
-use Prim.Native.Nat.{ℕ, _+_, _-_, _/_, _%_, _≤_, _<_}
+use Prim.Native.Nat.{ℕ, _+_, _-_, _*_, _/_, _%_, _≤_, _<_}
 use mathlib.Core.Path.{_≡_, refl, sym, ap, _∙_}
 use mathlib.Core.Bool.{Bool, true, false, false≢true}
 use mathlib.Core.List.{List, [], _∷_, _++_, map, append-assoc, map-append}
@@ -7,9 +7,9 @@ use native.Mathlib.Omega.{arith}
 use lib.Dec.{eqb}
 use lib.ListN.{length, getD, take, drop, length-drop}
 use lib.Seq.{length-take-le}
-use borrow.Author.Tests.{ne-eqb}
 use Rattle.encoding.specs.ArrayLaws.{getD-rising, part-cons, part-nil}
 use Rattle.encoding.specs.CountLaws.{upFrom-more, upFrom-none}
+use Rattle.encoding.specs.Values.{unsetAt, falseWord}
 use Rattle.definitions.specs.Lists.{joined, upFrom}
 use Rattle.definitions.specs.Sheet.{Number, plus}
 use Rattle.definitions.specs.Listing.{fieldBytes, lineBytes, narrow, wide, answerNumber}
@@ -166,13 +166,13 @@ logged-first given arities starts literals numbers table n =
 -- ── the lines of kind 7 ──
 
 module _ (arities table values : List ℕ) (i : ℕ) where
-  pub setting-unset : getD values i 0 ≡ 0 → settingBytes arities table values i ≡ []
+  pub setting-unset : {b : Bool} → b ≡ unsetAt values i → b ≡ true → settingBytes arities table values i ≡ []
   unfolding settingBytes
-  setting-unset e = cc
+  setting-unset u e = cc
 
-  pub setting-set : (getD values i 0 ≡ 0 → ⊥) → rowBytes (plus 7 ∷ codeNumbers arities (eqb (getD values i 0) 2) (getD table i 0)) ≡ settingBytes arities table values i
+  pub setting-set : {b negative : Bool} → b ≡ unsetAt values i → b ≡ false → negative ≡ falseWord values (2 * i) → rowBytes (plus 7 ∷ codeNumbers arities negative (getD table i 0)) ≡ settingBytes arities table values i
   unfolding settingBytes
-  setting-set n = cc (ne-eqb (getD values i 0) 0 n)
+  setting-set u e f = cc
 
 module _ (v : Verdict) (atoms : ℕ) (arities table values : List ℕ) where
   pub settings-unsat : v ≡ Unsat → settingsBytes v atoms arities table values ≡ []

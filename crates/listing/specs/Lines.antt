@@ -1,5 +1,5 @@
 -- The listing from the arrays of the search: an atom by its code, a clause by its words, a setting by its value. Assumes nothing.
-use Prim.Native.Nat.{ℕ, _+_, _-_, _/_, _%_, _≤_, _<_}
+use Prim.Native.Nat.{ℕ, _+_, _-_, _*_, _/_, _%_, _≤_, _<_}
 use mathlib.Core.Bool.{Bool, true, false}
 use mathlib.Core.List.{List, [], _∷_, _++_, map}
 use lib.Dec.{eqb}
@@ -9,6 +9,7 @@ use Rattle.definitions.specs.Sheet.{Number, plus}
 use Rattle.definitions.specs.Listing.{fieldBytes, lineBytes, narrow, wide, answerNumber}
 use Rattle.definitions.specs.declared.Verdict.{Verdict}
 use Rattle.definitions.specs.declared.Verdict.the-variants.{Unsat, Unknown, Spent, Full}
+use Rattle.encoding.specs.Values.{unsetAt, falseWord}
 use Rattle.units.specs.Units.{clauseAt}
 use Rattle.search.specs.declared.Run.{Run}
 
@@ -52,12 +53,12 @@ loggedBytes given arities starts literals numbers table n = rowBytes (loggedNumb
 unfoldable pub logBytes : ℕ → ℕ → List ℕ → List ℕ → List ℕ → List ℕ → List ℕ → List ℕ
 logBytes given clauses arities starts literals numbers table = joined (loggedBytes given arities starts literals numbers table) (upFrom 0 (clauses - given))
 
--- kind 7 of the atom at a position, if it is set: 1 is true, 2 is false
+-- kind 7 of the atom at a position, if it is set: the atom, or its negation where the positive literal is false
 unfoldable pub settingBytes : List ℕ → List ℕ → List ℕ → ℕ → List ℕ
 settingBytes arities table values i =
-    elim (eqb (getD values i 0) 0) [
+    elim (unsetAt values i) [
       | true ↦ []
-      | false ↦ rowBytes (plus 7 ∷ codeNumbers arities (eqb (getD values i 0) 2) (getD table i 0))
+      | false ↦ rowBytes (plus 7 ∷ codeNumbers arities (falseWord values (2 * i)) (getD table i 0))
     ]
 
 -- for UNKNOWN only

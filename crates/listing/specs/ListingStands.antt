@@ -1,16 +1,16 @@
 -- The listing made from the arrays of a search that has ended is the listing of its state: by codes the atoms, by words the logged
 -- clauses, by values the settings. Assumes nothing.
-use Prim.Native.Nat.{ℕ, _-_, _≤_}
+use Prim.Native.Nat.{ℕ, _-_, _*_, _≤_}
 use mathlib.Core.Path.{_≡_, refl, sym, _∙_, ap}
 use mathlib.Core.Bool.{not}
 use mathlib.Core.Option.{some}
 use mathlib.Core.List.{List, [], _∷_, _++_, map, append-nil, append-assoc, List·Memᴰ·head, List·Memᴰ·tail}
 use native.Mathlib.Omega.{arith}
-use lib.ListN.{length, getD, getElem?, length-map}
+use lib.ListN.{length, getElem?, length-map}
 use Rattle.definitions.specs.Lists.{_∈_, joined, keep}
 use Rattle.definitions.specs.Words.{Atom, Literal, negate, plain, Clause, Problem}
 use Rattle.definitions.specs.Instances.{taskOf}
-use Rattle.definitions.specs.Search.{isFalse, Logged, clauseOf, State}
+use Rattle.definitions.specs.Search.{isFalse, isUnset, Logged, clauseOf, State}
 use Rattle.definitions.specs.Sheet.{Number, plus}
 use Rattle.definitions.specs.Listing.{fieldBytes, lineBytes, narrow, wide, answerNumber, countLine, literalNumbers, loggedLine, setLine, setLiteral, settings, listingLines, listing}
 use Rattle.definitions.specs.declared.Verdict.{Verdict}
@@ -22,10 +22,10 @@ use Rattle.encoding.specs.PositionLaws.{position-at, code-at}
 use Rattle.encoding.specs.HoldLaws.{searchable-encodable, plain-limits}
 use Rattle.encoding.specs.Signs.{numberOf}
 use Rattle.encoding.specs.Signs.{number-word}
-use Rattle.encoding.specs.Standing.{truth}
-use Rattle.encoding.specs.TruthLaws.{truth-true, truth-false, truth-unset}
+use Rattle.encoding.specs.Values.{unsetAt, falseWord}
+use Rattle.encoding.specs.TruthLaws.{Consistent, by-truth, unset-at, false-word}
 use Rattle.encoding.specs.ArrayLaws.{front-at}
-use Rattle.units.specs.UnitLaws.{Consistent, by-truth}
+use Rattle.units.specs.LiteralWords.{word-plain}
 use Rattle.theory.specs.PlaceLaws.{getElem-in}
 use Rattle.search.specs.declared.Ended.{Ended}
 use Rattle.listing.specs.Lines.{rowBytes, columnBytes, codeNumbers, wordNumbers, loggedNumbers, loggedBytes, logBytes, settingBytes, settingsBytes, countBytes, listingBytes, ClausesListable}
@@ -91,22 +91,19 @@ module _ (p : Problem) (budget : ℕ) (s : State) (ended : Ended) (given : ℕ) 
   trail-consistent : Consistent (s .trail)
   trail-consistent = consistent (taskOf p) (h .stands .sound .inv .trailed)
 
-  value-at : (i : ℕ) (a : Atom) → getElem? (s .table) i ≡ some a → getD values i 0 ≡ truth (s .trail) (plain a)
-  value-at i a e =
-      ap (λ (n : ℕ). getD values n 0) (sym (position-at (s .table) (h .stands .log .different) i a e))
-      ∙ h .stands .trail .valued a (getElem-in (s .table) i a e .1)
-
   setting-stands : (i : ℕ) (a : Atom) → getElem? (s .table) i ≡ some a
       → settingBytes arities table values i ≡ joined (λ l. lineBytes (setLine l)) (setLiteral s a)
-  unfolding settingBytes rowBytes setLine setLiteral keep joined isFalse plain negate
+  unfolding settingBytes rowBytes setLine setLiteral keep joined isUnset isFalse plain negate
   setting-stands i a e =
       let m = getElem-in (s .table) i a e .1 in
-      let value = value-at i a e in
+      let place = sym (position-at (s .table) (h .stands .log .different) i a e) in
+      let unset = ap (unsetAt values) place ∙ unset-at (s .table) (s .trail) values (h .stands .trail .valued) a m in
+      let negative = ap (λ (n : ℕ). falseWord values (2 * n)) place ∙ ap (falseWord values) (sym (word-plain (s .table) a)) ∙ false-word (s .table) (s .trail) values (h .stands .trail .valued) trail-consistent (plain a) m in
       let code = front-at atomCode (s .table) table (h .stands .log .codes) i a 0 e in
       by-truth (s .trail) trail-consistent (plain a)
-      (λ t u. cc (value, truth-true (s .trail) (plain a) t, code, code-numbers (plain a) m, append-nil (lineBytes (setLine (plain a)))))
-      (λ t u. cc (value, truth-false (s .trail) (plain a) t u, code, code-numbers (negate (plain a)) m, append-nil (lineBytes (setLine (negate (plain a))))))
-      (λ t u. cc (value, truth-unset (s .trail) (plain a) t u))
+      (λ t u. cc (unset, negative, code, code-numbers (plain a) m, append-nil (lineBytes (setLine (plain a)))))
+      (λ t u. cc (unset, negative, code, code-numbers (negate (plain a)) m, append-nil (lineBytes (setLine (negate (plain a))))))
+      (λ t u. cc (unset))
 
   settings-stand : (v : Verdict) → settingsBytes v (ended .run .atoms) arities table values ≡ joined lineBytes (map setLine (settings v s))
   unfolding settingsBytes settings joined

@@ -19,6 +19,7 @@ use encoding::LITERALS;
 use encoding::LOGGED;
 use encoding::STARTS;
 use encoding::SYMBOLS;
+use encoding::values;
 use search::Ended;
 use search::Run;
 
@@ -216,12 +217,12 @@ fn put_setting(
     requires { ⌜ (i < 256) × (at + length (settingBytes (now arities) (now table) (now values) i) ≤ length (now room)) ⌝ }
     ensures { λ r. ⌜ Put (now (room .entry)) at (settingBytes (now (arities .entry)) (now (table .entry)) (now (values .entry)) i) r (now (room .exit)) ⌝ }
 {
-    let v = values[i];
-    if v == 0 {
+    if values::is_unset(values, i) {
         return at;
     }
+    let negative = values::is_false(values, (2 * i) as u16);
     let code = table[i];
-    put_set(room, at, arities, v == 2, code)
+    put_set(room, at, arities, negative, code)
 }
 
 // The lines of kind 7, in the order of the table: one for each set atom.

@@ -14,6 +14,7 @@ use Rattle.theory.specs.Limits.{limits-searchable, accepted-limits}
 use Rattle.encoding.specs.Slots.{ruleWords}
 use Rattle.encoding.specs.Encoding.{atomCode, clauseWords, startsFrom, Arrays, hold, sizesOf, emptyIndex}
 use Rattle.encoding.specs.declared.Sizes.{Sizes}
+use Rattle.encoding.specs.Values.{noValues}
 use Rattle.search.specs.Machine.{Machine, machine, Stands, RulesStand, NumbersStand, Running, EndStands, Lengths, Loaded}
 use Rattle.search.specs.MachineStart.{rules-stand, machine-start}
 use Rattle.search.specs.SearchStands.{search-stands}
@@ -102,7 +103,7 @@ module _ (p : Problem) (sizes : Sizes) (budget : ℕ) (rules starts literals hea
 -- every sheet that is accepted is read into arrays that can be searched
 pub accepted-loaded : (sheet : List ℕ) (p : Problem) → read sheet ≡ accepted p → (before : Arrays) → before .index ≡ emptyIndex
     → (heads numbers trail marks : List ℕ) → Lengths (hold p before .rules) (hold p before .starts) (hold p before .literals) heads numbers (hold p before .table) trail marks
-    → Loaded p (sizesOf p) (hold p before .rules) (hold p before .starts) (hold p before .literals) heads numbers (hold p before .table) (hold p before .index) (replicate 256 0) trail marks
+    → Loaded p (sizesOf p) (hold p before .rules) (hold p before .starts) (hold p before .literals) heads numbers (hold p before .table) (hold p before .index) noValues trail marks
 accepted-loaded sheet p read-as before empty heads numbers trail marks lengths =
     record {
       lengths = lengths;

@@ -2,7 +2,7 @@
 use Prim.Native.Nat.{ℕ, _*_, _<_, _^_}
 use mathlib.Core.Path.{_≡_}
 use mathlib.Core.List.{List}
-use lib.ListN.{length, take, replicate}
+use lib.ListN.{length, take}
 use Rattle.definitions.specs.Lists.{joined}
 use Rattle.definitions.specs.Words.{Problem, goalAtoms}
 use Rattle.definitions.specs.Instances.{taskOf}
@@ -15,6 +15,7 @@ use Rattle.encoding.specs.Encoding.{Arrays, emptyIndex, sizesOf, hold}
 use Rattle.encoding.specs.declared.Sizes.{Sizes}
 use Rattle.encoding.specs.Slots.{ruleWords}
 use Rattle.units.specs.TrailWords.{TrailStands}
+use Rattle.encoding.specs.Values.{noValues}
 use Rattle.units.specs.TrailLaws.{Room}
 use Rattle.log.specs.Logging.{Log}
 use Rattle.log.specs.LogHolds.{LogHolds}
@@ -121,4 +122,4 @@ pub record Loaded (p : Problem) (sizes : Sizes) (rules starts literals heads num
   pub itsLiterals : literals ≡ hold p before .literals
   pub itsTable : table ≡ hold p before .table
   pub itsIndex : index ≡ hold p before .index
-  pub unset : values ≡ replicate 256 0
+  pub unset : values ≡ noValues

@@ -4,7 +4,7 @@ use Prim.Native.Nat.{ℕ, _*_}
 use mathlib.Core.Path.{_≡_, refl, _∙_, ap}
 use mathlib.Core.List.{List}
 use native.Mathlib.Omega.{arith}
-use lib.ListN.{length, replicate, length-replicate}
+use lib.ListN.{length}
 use Rattle.definitions.specs.Lists.{joined}
 use Rattle.definitions.specs.Words.{Problem, goalAtoms}
 use Rattle.definitions.specs.Instances.{taskOf}
@@ -16,6 +16,8 @@ use Rattle.theory.specs.Invariants.{Sound, start-sound}
 use Rattle.encoding.specs.Slots.{ruleWords}
 use Rattle.encoding.specs.Encoding.{emptyIndex, Arrays, hold}
 use Rattle.encoding.specs.HoldLaws.{rule-length}
+use Rattle.encoding.specs.Values.{noValues}
+use Rattle.encoding.specs.ValueLaws.{length-none}
 use Rattle.units.specs.TrailLaws.{start-stands}
 use Rattle.theory.specs.PlaceLaws.{joined-size}
 use Rattle.log.specs.StoreLaws.{sets-start-take}
@@ -41,7 +43,7 @@ goals-sound p limits = start-sound (taskOf p) (omega (arith, limits .goals))
 pub machine-start : (p : Problem) → Searchable p → (budget : ℕ) (before : Arrays) → before .index ≡ emptyIndex
     → length (before .starts) ≡ 578 → length (before .literals) ≡ 2568 → length (before .table) ≡ 256
     → (heads numbers values trail marks : List ℕ) → length heads ≡ 512 → length numbers ≡ 512
-    → values ≡ replicate 256 0 → length trail ≡ 256 → length marks ≡ 256
+    → values ≡ noValues → length trail ≡ 256 → length marks ≡ 256
     → Stands p budget (start (taskOf p))
     (machine (hold p before .starts) (hold p before .literals) heads numbers (hold p before .table) (hold p before .index) values trail marks)
     (record { atoms = length (goalAtoms (p .clauses)); clauses = length (p .clauses); set = 0; decisions = 0; conflicts = 0 })
@@ -54,7 +56,7 @@ machine-start p limits budget before empty startsLength literalsLength tableLeng
       trail = rw unset (start-stands (goalAtoms (p .clauses)) trail marks);
       room = record {
         table-size = omega (arith, limits .goals);
-        values-size = ap length unset ∙ length-replicate {A = ℕ} 256 0;
+        values-size = ap length unset ∙ length-none;
         trail-size = trailLength;
         marks-size = marksLength;
       };

@@ -1,13 +1,15 @@
 -- The steps of the machine, in the code's order of tests, and what a run of them comes to. Assumes nothing.
-use Prim.Native.Nat.{ℕ, zero, suc, _+_, _-_, _*_, _/_, _%_}
+use Prim.Native.Nat.{ℕ, zero, suc, _+_, _-_, _*_}
 use mathlib.Core.Bool.{true, false}
 use mathlib.Core.Option.{none, some}
 use mathlib.Core.List.{List}
 use lib.Dec.{eqb, leb}
 use lib.ListN.{getD, set, take, drop}
 use Rattle.definitions.specs.declared.Verdict.the-variants.{Unsat, Unknown, Spent, Full}
+use Rattle.definitions.specs.Search.{decided, flipped, forced}
+use Rattle.encoding.specs.Values.{assigned}
 use Rattle.units.specs.Units.{actFrom}
-use Rattle.units.specs.TrailWords.{latestDecision, cleared, firstUnset}
+use Rattle.units.specs.TrailWords.{markOf, latestDecision, cleared, firstUnset}
 use Rattle.walk.specs.Walk.{ruleVariables, fillingOf, walkFrom}
 use Rattle.log.specs.Logging.{Log, logUnder}
 use Rattle.search.specs.Machine.{Machine, machine, logIn}
@@ -28,7 +30,7 @@ stepped r m = record { next = r; arrays = m }
 -- a literal is set at a place of the trail
 unfoldable pub setAt : ℕ → ℕ → ℕ → Machine → Machine
 setAt at w why m =
-    machine (m .starts) (m .literals) (m .heads) (m .numbers) (m .table) (m .index) (set (m .values) (w / 2) (1 + w % 2)) (set (m .trail) at w) (set (m .marks) at why)
+    machine (m .starts) (m .literals) (m .heads) (m .numbers) (m .table) (m .index) (assigned (m .values) w) (set (m .trail) at w) (set (m .marks) at why)
 
 -- what was set from a place on is unset
 unfoldable pub undoFrom : ℕ → ℕ → Machine → Machine
@@ -59,14 +61,14 @@ oneLogged atoms run = record { atoms = atoms; clauses = run .clauses + 1; set = 
 -- Conflict: the latest decision that stands at true is set to false
 unfoldable pub flipAt : ℕ → Machine → Run → Stepped
 flipAt zero m run = stepped (Done Unsat (oneConflict (run .set) run)) m
-flipAt (suc at) m run = stepped (More (oneConflict (suc at) run)) (setAt at (getD (m .trail) at 0 + 1) 2 (undoFrom at (run .set) m))
+flipAt (suc at) m run = stepped (More (oneConflict (suc at) run)) (setAt at (getD (m .trail) at 0 + 1) (markOf flipped) (undoFrom at (run .set) m))
 
 unfoldable pub conflictStep : Machine → Run → Stepped
 conflictStep m run = flipAt (latestDecision (m .marks) (run .set)) m run
 
 -- A: a unit is set
 unfoldable pub unitStep : ℕ → Machine → Run → Stepped
-unitStep w m run = stepped (More (oneSet run)) (setAt (run .set) w 0 m)
+unitStep w m run = stepped (More (oneSet run)) (setAt (run .set) w (markOf forced) m)
 
 -- B: an instance is logged
 unfoldable pub instanceStep : List ℕ → ℕ → ℕ → ℕ → ℕ → Machine → Run → Stepped
@@ -81,7 +83,7 @@ unfoldable pub decideStep : ℕ → ℕ → Machine → Run → Stepped
 decideStep budget a m run =
     elim (leb budget (run .decisions)) [
       | true ↦ stepped (Done Spent run) m
-      | false ↦ stepped (More (oneDecided run)) (setAt (run .set) (2 * a) 1 m)
+      | false ↦ stepped (More (oneDecided run)) (setAt (run .set) (2 * a) (markOf decided) m)
     ]
 
 unfoldable pub goalStep : ℕ → ℕ → Machine → Run → Stepped

@@ -19,14 +19,15 @@ use Rattle.theory.specs.Trail.{Decision, Consequence, Ok, bare, next}
 use Rattle.theory.specs.Choices.{choiceWorld, inv-act}
 use Rattle.theory.specs.Unknown.{consistent}
 use Rattle.theory.specs.Ends.{Fits, step-fits}
-use Rattle.encoding.specs.Encoding.{position, literalWord}
-use Rattle.encoding.specs.Values.{literalValue}
+use Rattle.encoding.specs.Encoding.{position}
 use Rattle.units.specs.Units.{actFrom}
-use Rattle.encoding.specs.Standing.{truth}
+use Rattle.encoding.specs.Standing.{TrueWords}
+use Rattle.encoding.specs.TruthLaws.{Consistent, true-word}
 use Rattle.units.specs.ClausesStand.{actWord}
-use Rattle.units.specs.UnitLaws.{Consistent, value-truth, act-stands}
+use Rattle.units.specs.UnitLaws.{act-stands}
 use Rattle.units.specs.TrailWords.{latestDecision, firstUnset, TrailStands}
-use Rattle.units.specs.TrailLaws.{DecidedTrue, backtrack-none-zero, Backtracked, backtrack-stands, first-unset-some, first-unset-none}
+use Rattle.units.specs.BacktrackLaws.{DecidedTrue, backtrack-none-zero, Backtracked, backtrack-stands}
+use Rattle.units.specs.FirstUnset.{first-unset-some, first-unset-none}
 use Rattle.walk.specs.Walk.{walkFrom}
 use Rattle.walk.specs.WalkStands.{WalkAs, walk-stands}
 use Rattle.log.specs.LogHolds.{holds-index}
@@ -72,9 +73,9 @@ module _ (p : Problem) (budget : ℕ) (s : State) (m : Machine) (run : Run) (h :
   trail-decided : DecidedTrue (s .trail)
   trail-decided = decided-true (taskOf p) (h .sound .inv .trailed)
 
-  -- a literal of the table has the value of its truth, and a true literal is one of the table
-  pub literal-value : (l : Literal) → l .atom ∈ s .table → literalValue (m .values) (literalWord (s .table) l) ≡ truth (s .trail) l
-  literal-value = value-truth (s .table) (s .trail) (m .values) trail-consistent (h .trail .valued)
+  -- a literal of the table is true just where its word is, and a true literal is one of the table
+  pub true-words : TrueWords (s .table) (s .trail) (m .values)
+  true-words = true-word (s .table) (s .trail) (m .values) (h .trail .valued) trail-consistent
 
   pub true-known : (l : Literal) → isTrue (s .trail) l ≡ true → l .atom ∈ s .table
   true-known l e =
@@ -120,7 +121,7 @@ module _ (p : Problem) (budget : ℕ) (s : State) (m : Machine) (run : Run) (h :
   walk-as rules r =
       walk-stands p (r .limits) rules (r .words) s (m .values) (m .index)
       (holds-index p (r .limits) (s .table) (s .log) (logIn m run) (h .log))
-      literal-value
+      true-words
       true-known
 
   -- step C

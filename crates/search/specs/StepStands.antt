@@ -1,6 +1,6 @@
 -- Every step of the machine stands for a step of the search, kind by kind: what the search finds fixes each test of the machine, and
 -- the arrays then change as the state does. Assumes nothing.
-use Prim.Native.Nat.{ℕ, zero, suc, _+_, _-_, _*_, _/_, _%_, _<_}
+use Prim.Native.Nat.{ℕ, zero, suc, _+_, _-_, _*_, _<_}
 use mathlib.Core.Path.{_≡_, refl, sym, ap, _∙_, subst}
 use mathlib.Core.Bool.{true, false}
 use mathlib.Core.Option.{Option, none, some}
@@ -11,7 +11,7 @@ use borrow.Author.Tests.{ltb-true, ltb-false, eq-eqb, ne-eqb, le-leb, lt-leb}
 use Rattle.definitions.specs.Lists.{_∈_, joined}
 use Rattle.definitions.specs.Words.{Atom, Literal, plain, Problem, goalAtoms}
 use Rattle.definitions.specs.Instances.{taskOf}
-use Rattle.definitions.specs.Search.{Why, decided, forced, Trail, isUnset, Logged, State, conflict, force, nextAct, nextInstance, loggedOf, enterTaken, nextGoal, backtrack, setUnit, logInstance, decide, afterConflict, Outcome, more, done, hasRoom, step}
+use Rattle.definitions.specs.Search.{Why, decided, flipped, forced, Trail, isUnset, Logged, State, conflict, force, nextAct, nextInstance, loggedOf, enterTaken, nextGoal, backtrack, setUnit, logInstance, decide, afterConflict, Outcome, more, done, hasRoom, step}
 use Rattle.definitions.specs.declared.Verdict.{Verdict}
 use Rattle.definitions.specs.declared.Verdict.the-variants.{Unsat, Unknown, Spent, Full}
 use Rattle.theory.specs.Tests.{none≢some, some-injective}
@@ -25,8 +25,10 @@ use Rattle.encoding.specs.Encoding.{position, literalWord}
 use Rattle.units.specs.ClausesStand.{actWord}
 use Rattle.units.specs.TrailWords.{markOf, latestDecision, cleared, firstUnset, TrailStands}
 use Rattle.units.specs.LiteralWords.{word-plain}
+use Rattle.encoding.specs.ValueLaws.{length-assigned}
 use Rattle.units.specs.Stacks.{length-cleared}
-use Rattle.units.specs.TrailLaws.{room-kept, set-stands, zero-backtrack-none, grown-stands}
+use Rattle.units.specs.TrailLaws.{room-kept, set-stands, grown-stands}
+use Rattle.units.specs.BacktrackLaws.{zero-backtrack-none}
 use Rattle.walk.specs.Walk.{walkFrom}
 use Rattle.walk.specs.RuleStands.{rule-variables}
 use Rattle.walk.specs.WalkStands.{WalkAs}
@@ -35,7 +37,7 @@ use Rattle.log.specs.LogHolds.{LogHolds}
 use Rattle.log.specs.LogStands.{logged-full, logged-stands}
 use Rattle.search.specs.Machine.{Machine, logIn, Stands, StandsAtEnd, RulesStand, NextStands}
 use Rattle.search.specs.MachineSteps.{Stepped, stepped, setAt, undoFrom, withLog, oneSet, oneDecided, oneConflict, oneLogged, flipAt, conflictStep, unitStep, instanceStep, decideStep, goalStep, machineStep}
-use Rattle.search.specs.StandsLaws.{literal-value, true-known, room-for, act-as, unit-unset, back-none, back-some, walk-as, goal-unset, goal-none, goal-some}
+use Rattle.search.specs.StandsLaws.{true-words, true-known, room-for, act-as, unit-unset, back-none, back-some, walk-as, goal-unset, goal-none, goal-some}
 use Rattle.search.specs.declared.Run.{Run}
 use Rattle.search.specs.declared.Next.the-variants.{More, Done}
 use Rattle.walk.specs.declared.Found.{Found}
@@ -125,8 +127,8 @@ module _ (p : Problem) (budget : ℕ) (rules : List ℕ) (rulesStand : RulesStan
       rw (q, h .set) (set-stands (h .room) (h .trail) l y u i small)
 
   unit-stands : (l : Literal) → nextAct (taskOf p) s ≡ some (force l)
-      → Stands p budget (setUnit s l) (setAt (run .set) (literalWord (s .table) l) 0 m) (oneSet run)
-  unfolding setUnit setAt oneSet markOf
+      → Stands p budget (setUnit s l) (setAt (run .set) (literalWord (s .table) l) (markOf forced) m) (oneSet run)
+  unfolding setUnit setAt oneSet
   unit-stands l e =
       let (inside, unset) = unit-unset p budget s m run h l e in
       record {
@@ -134,15 +136,15 @@ module _ (p : Problem) (budget : ℕ) (rules : List ℕ) (rulesStand : RulesStan
         counted = step-counts (taskOf p) budget s (h .counted) (more (setUnit s l)) (unit l e);
         log = h .log;
         trail = set-trail l forced inside unset (literalWord (s .table) l) refl;
-        room = room-kept (h .room) (length-set (m .values) _ _) (length-set (m .trail) _ _) (length-set (m .marks) _ _);
+        room = room-kept (h .room) (length-assigned (m .values) _) (length-set (m .trail) _ _) (length-set (m .marks) _ _);
         set = omega (arith, h .set);
         decisions = h .decisions;
         conflicts = h .conflicts;
       }
 
   decide-stands : (a : Atom) → (d : Step (taskOf p) budget s (more (decide s a))) → nextGoal (taskOf p) s ≡ some a
-      → Stands p budget (decide s a) (setAt (run .set) (2 * position (s .table) a) 1 m) (oneDecided run)
-  unfolding decide setAt oneDecided markOf
+      → Stands p budget (decide s a) (setAt (run .set) (2 * position (s .table) a) (markOf decided) m) (oneDecided run)
+  unfolding decide setAt oneDecided
   decide-stands a d e =
       let (inside, unset) = goal-unset p budget s m run h a e in
       record {
@@ -150,7 +152,7 @@ module _ (p : Problem) (budget : ℕ) (rules : List ℕ) (rulesStand : RulesStan
         counted = step-counts (taskOf p) budget s (h .counted) (more (decide s a)) d;
         log = h .log;
         trail = set-trail (plain a) decided inside unset (2 * position (s .table) a) (sym (word-plain (s .table) a));
-        room = room-kept (h .room) (length-set (m .values) _ _) (length-set (m .trail) _ _) (length-set (m .marks) _ _);
+        room = room-kept (h .room) (length-assigned (m .values) _) (length-set (m .trail) _ _) (length-set (m .marks) _ _);
         set = omega (arith, h .set);
         decisions = omega (arith, h .decisions);
         conflicts = h .conflicts;
@@ -159,26 +161,23 @@ module _ (p : Problem) (budget : ℕ) (rules : List ℕ) (rulesStand : RulesStan
   -- ── a conflict ──
 
   undone-as : nextAct (taskOf p) s ≡ some conflict → (at : ℕ) → latestDecision (m .marks) (run .set) ≡ suc at
-      → result ≡ stepped (More (oneConflict (suc at) run)) (setAt at (getD (m .trail) at 0 + 1) 2 (undoFrom at (run .set) m))
+      → result ≡ stepped (More (oneConflict (suc at) run)) (setAt at (getD (m .trail) at 0 + 1) (markOf flipped) (undoFrom at (run .set) m))
   unfolding conflictStep flipAt
   undone-as e at q = on-conflict e ∙ cc
 
   undone-stands : (u : Trail) → nextAct (taskOf p) s ≡ some conflict → backtrack (s .trail) ≡ some u → (at : ℕ) → latestDecision (m .marks) (run .set) ≡ suc at
-      → Stands p budget (afterConflict s u) (setAt at (getD (m .trail) at 0 + 1) 2 (undoFrom at (run .set) m)) (oneConflict (suc at) run)
+      → Stands p budget (afterConflict s u) (setAt at (getD (m .trail) at 0 + 1) (markOf flipped) (undoFrom at (run .set) m)) (oneConflict (suc at) run)
   unfolding afterConflict setAt undoFrom oneConflict
   undone-stands u e b at q =
       let d = back-some p budget s m run h u b at q in
-      let w = getD (m .trail) at 0 in
       let ws = take (run .set - at) (drop at (m .trail)) in
       let place : suc at - 1 ≡ at = omega arith in
-      let half : (w + 1) / 2 ≡ w / 2 = omega (arith, d .even) in
-      let sign : 1 + (w + 1) % 2 ≡ 2 = omega (arith, d .even) in
       record {
         sound = step-sound (taskOf p) budget s (h .sound) (more (afterConflict s u)) (undone u e b);
         counted = step-counts (taskOf p) budget s (h .counted) (more (afterConflict s u)) (undone u e b);
         log = h .log;
-        trail = rw (half, sign, h .set) (rw place at (d .stands));
-        room = room-kept (h .room) (length-set (cleared (m .values) ws) _ _ ∙ length-cleared (m .values) ws) (length-set (m .trail) _ _)
+        trail = rw (h .set) (rw place at (d .stands));
+        room = room-kept (h .room) (length-assigned (cleared (m .values) ws) _ ∙ length-cleared (m .values) ws) (length-set (m .trail) _ _)
             (length-set (m .marks) _ _);
         set = sym (d .size);
         decisions = h .decisions;
@@ -248,7 +247,7 @@ module _ (p : Problem) (budget : ℕ) (rules : List ℕ) (rulesStand : RulesStan
         cases Nowhere q e = none≢some (sym e ∙ found)
         cases (Instance r f) q (x, its, below, first) =
             let same = some-injective (sym found ∙ first) in
-            let (l, put, holds) = logged-stands p limits rules words s (m .values) (logIn m run) (h .log) (literal-value p budget s m run h) (true-known p budget s m run h) r x its f below first (rw same at room) in
+            let (l, put, holds) = logged-stands p limits rules words s (m .values) (logIn m run) (h .log) (true-words p budget s m run h) (true-known p budget s m run h) r x its f below first (rw same at room) in
             let comes : instanceStep rules (p .constants) given r f m run ≡ stepped (More (oneLogged (l .atoms) run)) (withLog l m) =
             cc (put, rule-variables p limits rules words r x its) in
             goes-on p budget (on-instance r f noAct q ∙ comes) (logs-stands i l d (subst (λ j. LogHolds p (logInstance s (loggedOf (s .trail) j)) l) (sym same) holds))
@@ -261,7 +260,7 @@ module _ (p : Problem) (budget : ℕ) (rules : List ℕ) (rulesStand : RulesStan
         cases Nowhere q e = none≢some (sym e ∙ found)
         cases (Instance r f) q (x, its, below, first) =
             let same = some-injective (sym found ∙ first) in
-            let put = logged-full p limits rules words s (m .values) (logIn m run) (h .log) (literal-value p budget s m run h) (true-known p budget s m run h) r x its f below first (rw same at full) in
+            let put = logged-full p limits rules words s (m .values) (logIn m run) (h .log) (true-words p budget s m run h) (true-known p budget s m run h) r x its f below first (rw same at full) in
             on-instance r f noAct q ∙ cc (put, rule-variables p limits rules words r x its)
 
   -- ── every kind of step ──

@@ -20,6 +20,7 @@ use Rattle.theory.specs.Limits.{accepted-limits, limits-searchable}
 use Rattle.theory.specs.Theorems.{listing-at-most}
 use Rattle.theory.specs.CallLaws.{small-room, large-room}
 use Rattle.column.specs.Sets.{sets-front}
+use Rattle.encoding.specs.Values.{noValues}
 use Rattle.encoding.specs.Slots.{ruleWords}
 use Rattle.encoding.specs.Encoding.{atomCode, clauseWords, startsFrom, Arrays, arrays, hold, sizesOf}
 use Rattle.sheet.specs.LineReads.{SheetRead}
@@ -83,7 +84,7 @@ module _ (sheet : List ℕ) (p : Problem) (sizes : Sizes) (arities rules starts 
   unfolding hold emptyArrays
   held-arities = ap (λ (a : Arrays). a .arities) (held .holds)
 
-  module _ (heads numbers values trail marks : List ℕ) (ofHeads : length heads ≡ 512) (ofNumbers : length numbers ≡ 512) (unset : values ≡ replicate 256 0)
+  module _ (heads numbers values trail marks : List ℕ) (ofHeads : length heads ≡ 512) (ofNumbers : length numbers ≡ 512) (unset : values ≡ noValues)
       (ofTrail : length trail ≡ 256) (ofMarks : length marks ≡ 256) where
     -- the arrays can be searched
     pub held-loaded : Loaded p sizes rules starts literals heads numbers table index values trail marks
@@ -101,7 +102,7 @@ module _ (sheet : List ℕ) (p : Problem) (sizes : Sizes) (arities rules starts 
         }) in
         as-held loaded
       where
-        as-held : Loaded p (sizesOf p) (hold p emptyArrays .rules) (hold p emptyArrays .starts) (hold p emptyArrays .literals) heads numbers (hold p emptyArrays .table) (hold p emptyArrays .index) (replicate 256 0) trail marks
+        as-held : Loaded p (sizesOf p) (hold p emptyArrays .rules) (hold p emptyArrays .starts) (hold p emptyArrays .literals) heads numbers (hold p emptyArrays .table) (hold p emptyArrays .index) noValues trail marks
             → Loaded p sizes rules starts literals heads numbers table index values trail marks
         as-held h =
             rw (held .counts, unset, ap (λ (a : Arrays). a .rules) (held .holds), ap (λ (a : Arrays). a .starts) (held .holds), ap (λ (a : Arrays). a .literals) (held .holds), ap (λ (a : Arrays). a .table) (held .holds), ap (λ (a : Arrays). a .index) (held .holds)) h

@@ -19,6 +19,7 @@ use encoding::RULE_WORDS;
 use encoding::STARTS;
 use encoding::SYMBOLS;
 use encoding::Sizes;
+use encoding::values;
 use sheet::Read;
 
 // The search of a sheet that was read, and its listing.
@@ -39,7 +40,7 @@ fn searched(
 {
     let mut heads = [0u8; LOGGED];
     let mut numbers = [0u8; LOGGED];
-    let mut values = [0u8; ATOMS];
+    let mut values = [values::UNSET; ATOMS];
     let mut trail = [0u16; ATOMS];
     let mut marks = [0u8; ATOMS];
     let ended = search::search(

@@ -1,5 +1,5 @@
 -- Backtracking over the arrays: the marks tell the latest decision, and what was set from it on is undone. Assumes nothing.
-use Prim.Native.Nat.{ℕ, _+_, _-_, _%_, _≤_, _<_}
+use Prim.Native.Nat.{ℕ, _+_, _-_, _≤_, _<_}
 use mathlib.Core.Path.{_≡_, refl, sym, _∙_, ap}
 use mathlib.Core.Bool.{true, false}
 use mathlib.Core.Option.{none, some}
@@ -101,7 +101,6 @@ pub record Backtracked (table : List Atom) (t u : Trail) (values trail marks : L
   pub positive : 0 < n
   pub size : length u ≡ n
   pub within : n ≤ length t
-  pub even : w % 2 ≡ 0
   pub small : w + 1 < 512
   pub stands : TrailStands table u (assigned (cleared values (take (length t - (n - 1)) (drop (n - 1) trail))) (w + 1)) (set trail (n - 1) (w + 1)) (set marks (n - 1) (markOf flipped))
 
@@ -121,7 +120,6 @@ backtrack-stands {table} {t} {u} {values} {trail} {marks} {n} {w} r s g d p h en
           positive = omega (arith, ap length (f .after));
           size = sym size;
           within = omega (arith, ap length (f .after), ap length (f .split), length-append (f .since) (f .entry ∷ f .before));
-          even = ap (λ (v : ℕ). v % 2) word ∙ word-even table (f .entry .literal) q;
           small = omega (arith, word-even table (f .entry .literal) q, word-small table (f .entry .literal) (r .table-size) (g (f .entry) m));
           stands = rw (place, word, f .after, f .split) (flip-stands (f .since) (f .entry) (f .before) r s′ (rw (f .split) at g) (rw (f .split) at d) q);
         }

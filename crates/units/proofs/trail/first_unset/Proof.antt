@@ -1,4 +1,4 @@
--- `search::trail::first_unset` meets its contract. The loop's invariant: the first unset position from `i` on is the first of all. Assumes nothing.
+-- `trail::first_unset` meets its contract. The loop's invariant: the first unset position from `i` on is the first of all. Assumes nothing.
 use Prim.Native.Nat.{_≤_, _-_}
 use mathlib.Core.Path.{_≡_}
 use borrow.Author.Needs.{needs}

@@ -1,4 +1,4 @@
--- `search::trail::latest_decision` meets its contract. The loop's invariant: the latest decision below `i` is the latest of all. Assumes nothing.
+-- `trail::latest_decision` meets its contract. The loop's invariant: the latest decision below `i` is the latest of all. Assumes nothing.
 use Prim.Native.Nat.{_≤_}
 use mathlib.Core.Path.{_≡_, refl}
 use borrow.Author.Needs.{needs}

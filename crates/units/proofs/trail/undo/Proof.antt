@@ -1,4 +1,4 @@
--- `search::trail::undo` meets its contract. The loop's invariant: to clear the words from `i` on comes to what clearing all comes to. Assumes nothing.
+-- `trail::undo` meets its contract. The loop's invariant: to clear the words from `i` on comes to what clearing all comes to. Assumes nothing.
 use Prim.Native.Nat.{_≤_, _-_}
 use mathlib.Core.Path.{_≡_, refl}
 use borrow.Author.Needs.{needs}
