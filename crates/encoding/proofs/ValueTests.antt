@@ -5,26 +5,28 @@ use mathlib.Core.List.{List}
 use lib.Dec.{eqb}
 use lib.ListN.{getD, set}
 use borrow.Author.Tests.{eq-eqb, ne-eqb}
-use Rattle.encoding.specs.Values.{unsetValue, trueValue, falseValue, isUnsetValue, isTrueValue, isFalseValue, opposite, valueAt, unsetAt, literalValue, trueWord, falseWord, assigned, unassigned}
+use Rattle.encoding.specs.Values.{Value, unsetValue, trueValue, falseValue, isUnsetValue, isTrueValue, isFalseValue, opposite, valueAt, unsetAt, literalValue, trueWord, falseWord, assigned, unassigned}
+use Rattle.encoding.specs.ValueLaws.{is-true, not-true, is-false, not-false}
 
-pub opposite-true : (v : ℕ) → v ≡ trueValue → falseValue ≡ opposite v
-unfolding opposite isTrueValue
-opposite-true v e = cc
+module _ (v : Value) where
+  pub opposite-true : v ≡ trueValue → falseValue ≡ opposite v
+  unfolding opposite
+  opposite-true e = cc (is-true v e)
 
-pub opposite-false : (v : ℕ) → (v ≡ trueValue → ⊥) → v ≡ falseValue → trueValue ≡ opposite v
-unfolding opposite isTrueValue isFalseValue
-opposite-false v n e = cc
+  pub opposite-false : (v ≡ trueValue → ⊥) → v ≡ falseValue → trueValue ≡ opposite v
+  unfolding opposite
+  opposite-false n e = cc (not-true v n, is-false v e)
 
-pub opposite-unset : (v : ℕ) → (v ≡ trueValue → ⊥) → (v ≡ falseValue → ⊥) → unsetValue ≡ opposite v
-unfolding opposite isTrueValue isFalseValue
-opposite-unset v n m = cc (ne-eqb v trueValue n, ne-eqb v falseValue m)
+  pub opposite-unset : (v ≡ trueValue → ⊥) → (v ≡ falseValue → ⊥) → unsetValue ≡ opposite v
+  unfolding opposite
+  opposite-unset n m = cc (not-true v n, not-false v m)
 
 pub unset-is : (values : List ℕ) (at : ℕ) → eqb (getD values at 0) unsetValue ≡ unsetAt values at
 unfolding unsetAt valueAt isUnsetValue
 unset-is values at = cc
 
 module _ (values : List ℕ) (w : ℕ) where
-  module _ (v : ℕ) (its : v ≡ literalValue values w) where
+  module _ (v : Value) (its : v ≡ literalValue values w) where
     pub true-is : eqb v trueValue ≡ trueWord values w
     unfolding trueWord isTrueValue
     true-is = cc

@@ -1,15 +1,35 @@
--- The states of atoms once a literal is set or unset, and the value of a literal by its atom's. Assumes nothing.
+-- The tests of a value, the states of atoms once a literal is set or unset, and the value of a literal by its atom's. Assumes nothing.
 use Prim.Native.Nat.{ℕ, _+_, _*_, _/_, _%_, _<_}
 use mathlib.Core.Path.{_≡_}
+use mathlib.Core.Bool.{true, false}
 use mathlib.Core.List.{List}
 use native.Mathlib.Omega.{arith}
 use lib.Dec.{eqb}
 use lib.ListN.{length, length-set, length-replicate}
 use lib.Seq.{getD-set-same, getD-set-other, set-comm}
-use borrow.Author.Tests.{eqb-true, eqb-false}
+use borrow.Author.Tests.{ne-eqb, eqb-true, eqb-false}
 use Rattle.theory.specs.Tests.{by-test}
 use Rattle.encoding.specs.ArrayLaws.{getD-zeros}
-use Rattle.encoding.specs.Values.{unsetValue, trueValue, falseValue, opposite, valueAt, literalValue, noValues, assigned, unassigned}
+use Rattle.encoding.specs.Values.{Value, unsetValue, trueValue, falseValue, isTrueValue, isFalseValue, opposite, valueAt, literalValue, noValues, assigned, unassigned}
+
+-- ── the tests of a value ──
+
+module _ (v : Value) where
+  pub is-true : v ≡ trueValue → isTrueValue v ≡ true
+  unfolding isTrueValue
+  is-true e = cc
+
+  pub not-true : (v ≡ trueValue → ⊥) → isTrueValue v ≡ false
+  unfolding isTrueValue
+  not-true n = ne-eqb v trueValue n
+
+  pub is-false : v ≡ falseValue → isFalseValue v ≡ true
+  unfolding isFalseValue
+  is-false e = cc
+
+  pub not-false : (v ≡ falseValue → ⊥) → isFalseValue v ≡ false
+  unfolding isFalseValue
+  not-false n = ne-eqb v falseValue n
 
 -- ── a literal's value ──
 

@@ -6,11 +6,20 @@ use Rattle.listing.proofs.Parts.{setting-unset, setting-set}
 use Rattle.listing.proofs.put_setting.Statement.{statement}
 use Rattle.listing.proofs.put_setting.Tie as tie
 
-element-copy-out-v : tie.Need-element-copy-out-v
-element-copy-out-v c = search needs
+is-unset-requires : tie.Need-is-unset-requires
+is-unset-requires c κs = search needs
 
 returns : tie.Need-returns
-returns c = put-all (put-none-yet refl) (setting-unset _ _ _ _ (c .if1 .taken))
+returns c = put-all (put-none-yet refl) (setting-unset _ _ _ _ (c .before .is-unset .ensures) (c .if1 .taken))
+
+mul-is-false : tie.Need-mul-is-false
+mul-is-false c = search needs
+
+cast-is-false : tie.Need-cast-is-false
+cast-is-false c = search needs
+
+is-false-requires : tie.Need-is-false-requires
+is-false-requires c κs = search needs
 
 mul-code : tie.Need-mul-code
 mul-code c = search needs
@@ -20,8 +29,9 @@ element-copy-out-code c = search needs
 
 put-set-requires : tie.Need-put-set-requires
 put-set-requires c κs =
-    let s = c .before .before .before .before .before in
-    put-room (put-none-yet {room = s .args .room .now} (setting-set _ _ _ _ (c .before .before .if1 .left))) (s .pre .1)
+    let tested = c .before .before .before in
+    let s = tested .before .before .before in
+    put-room (put-none-yet {room = s .args .room .now} (setting-set _ _ _ _ (tested .before .is-unset .ensures) (tested .if1 .left) (c .before .before .is-false .ensures))) (s .pre .1)
 
 same-length : tie.Need-same-length
 same-length c = search needs
@@ -29,14 +39,18 @@ same-length c = search needs
 returns-2 : tie.Need-returns-2
 returns-2 c =
     let put = c .before .before in
-    put-last (put-none-yet (setting-set _ _ _ _ (put .before .before .before .if1 .left))) (put .put-set .ensures)
+    let signed = put .before .before .before in
+    put-last (put-none-yet (setting-set _ _ _ _ (signed .before .before .is-unset .ensures) (signed .before .if1 .left) (signed .is-false .ensures))) (put .put-set .ensures)
 
 pub put-setting-spec : {M : Type 1} → statement M
 put-setting-spec =
     tie.close
     (tie.spec
-    element-copy-out-v
+    is-unset-requires
     returns
+    mul-is-false
+    cast-is-false
+    is-false-requires
     mul-code
     element-copy-out-code
     put-set-requires
