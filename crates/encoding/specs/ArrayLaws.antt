@@ -4,8 +4,9 @@ use Prim.Native.Nat.{ℕ, zero, suc, _+_, _-_, _≤_, _<_}
 use mathlib.Core.Path.{_≡_, refl, _∙_, ap}
 use mathlib.Core.Option.{some}
 use mathlib.Core.List.{List, [], _∷_, map, head-eq-of-cons-eq, tail-eq-of-cons-eq, List·Memᴰ·head, List·Memᴰ·tail}
+use native.Mathlib.Numerals.{add-one, add-two, add-three, add-four}
 use native.Mathlib.Omega.{arith}
-use lib.ListN.{length, getD, set, take, drop, replicate, getElem?}
+use lib.ListN.{length, getD, set, take, drop, replicate, getElem?, length-drop}
 use lib.Seq.{drop-cons}
 use Rattle.definitions.specs.Lists.{_∈_}
 use Rattle.theory.specs.Tests.{apart, none≢some, some-injective}
@@ -56,3 +57,14 @@ getD-rising l (suc n) up i h =
     by-order i n
     (λ b. let next : n + 1 ≡ suc n = omega arith in omega (arith, getD-rising l n (λ j k. up j (omega arith)) i b, rw next at (up n (omega arith))))
     (λ b. let e : i ≡ suc n = omega arith in rw e (omega arith))
+
+-- four words at a time: those at a place, and that fewer are left
+module _ (l : List ℕ) (at : ℕ) where
+  pub drop-four : at + 3 < length l → drop at l ≡ getD l at 0 ∷ getD l (at + 1) 0 ∷ getD l (at + 2) 0 ∷ getD l (at + 3) 0 ∷ drop (at + 4) l
+  drop-four h =
+      rw (add-one at, add-two at, add-three at, add-four at)
+      (drop-cons l at 0 (omega arith)
+      ∙ rw (drop-cons l (suc at) 0 (omega arith), drop-cons l (suc (suc at)) 0 (omega arith), drop-cons l (suc (suc (suc at))) 0 (omega arith)))
+
+  pub drop-few : length l ≤ at + 3 → length (drop at l) ≤ 3
+  drop-few h = omega (arith, length-drop at l)

@@ -13,7 +13,7 @@ use Rattle.theory.specs.Tests.{by-test, true-and-false}
 use Rattle.theory.specs.ListLaws.{Different}
 use Rattle.theory.specs.WordLaws.{atom-ext, sameAtom-eq, sameAtom-refl}
 use Rattle.encoding.specs.ArrayLaws.{getD-zeros, getD-each, getD-set-each}
-use Rattle.encoding.specs.Encoding.{place, atomCode, position, indexFrom, emptyIndex}
+use Rattle.encoding.specs.Encoding.{place, codeOf, atomCode, position, indexFrom, emptyIndex}
 
 -- ── codes ──
 
@@ -54,13 +54,13 @@ module _ (constants : ℕ) (arities : List ℕ) (limits : CodeLimits constants a
   place-small a h i = omega (arith, argument-at a h i)
 
   pub code-small : (a : Atom) → AtomLimits constants arities a → atomCode a < 524288
-  unfolding atomCode
+  unfolding atomCode codeOf
   code-small a h =
       omega (arith, h .symbol, h .declared, limits .symbols, place-small a h 0, place-small a h 1, place-small a h 2)
 
   -- an atom's code is its own
   pub code-injective : (a b : Atom) → AtomLimits constants arities a → AtomLimits constants arities b → atomCode a ≡ atomCode b → a ≡ b
-  unfolding atomCode place
+  unfolding atomCode codeOf place
   code-injective a b h g e =
       let (s, x, y, z) = digits-injective (a .symbol - 1) (place (a .args) 0) (place (a .args) 1) (place (a .args) 2) (b .symbol - 1) (place (b .args) 0) (place (b .args) 1) (place (b .args) 2)
       (place-small a h 0) (place-small a h 1) (place-small a h 2) (place-small b g 0) (place-small b g 1) (place-small b g 2) e in

@@ -14,9 +14,12 @@ use Rattle.encoding.specs.declared.Sizes.{Sizes}
 unfoldable pub place : List ℕ → ℕ → ℕ
 place args i = getD args i 1 - 1
 
--- symbol and three constants as one number below 524,288
+-- a symbol and three constants, each from 0, as one number below 524,288
+unfoldable pub codeOf : ℕ → ℕ → ℕ → ℕ → ℕ
+codeOf symbol a b c = ((symbol * 32 + a) * 32 + b) * 32 + c
+
 unfoldable pub atomCode : Atom → ℕ
-atomCode a = (((a .symbol - 1) * 32 + place (a .args) 0) * 32 + place (a .args) 1) * 32 + place (a .args) 2
+atomCode a = codeOf (a .symbol - 1) (place (a .args) 0) (place (a .args) 1) (place (a .args) 2)
 
 -- where an atom stands in the table
 unfoldable pub position : List Atom → Atom → ℕ

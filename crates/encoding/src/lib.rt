@@ -1,4 +1,5 @@
 // How a problem and a search stand in arrays: what several crates read and write alike.
+pub mod slots; // slots.rt: the code of a literal's atom, and the terms of slots
 pub mod values; // values.rt: the values of literals
 
 ghost use mathlib.Core.Path.{_≡_};
@@ -39,7 +40,7 @@ pub struct Sizes {
     pub literals: usize,
 }
 
-// A word, or a byte, as a number of the machine's size, with its bound.
+// A word, or a byte, as a wider number; through a call the proof knows its bound.
 pub fn wide(x: u16) -> usize
     ensures { λ r. ⌜ (r ≡ x) × (r < 65536) ⌝ }
 {
@@ -50,4 +51,10 @@ pub fn wide8(x: u8) -> usize
     ensures { λ r. ⌜ (r ≡ x) × (r < 256) ⌝ }
 {
     x as usize
+}
+
+pub fn widened(x: u8) -> u16
+    ensures { λ r. ⌜ (r ≡ x) × (r < 256) ⌝ }
+{
+    x as u16
 }

@@ -10,7 +10,7 @@ use Rattle.definitions.specs.Lists.{upFrom}
 use Rattle.definitions.specs.Words.{Atom, Literal}
 use Rattle.definitions.specs.Sheet.{plus}
 use Rattle.definitions.specs.Listing.{literalNumbers}
-use Rattle.encoding.specs.Encoding.{place, atomCode}
+use Rattle.encoding.specs.Encoding.{place, codeOf, atomCode}
 use Rattle.encoding.specs.CodeLaws.{CodeLimits, AtomLimits, arity-at-most, argument-at}
 use Rattle.encoding.specs.ArrayLaws.{front-at}
 use Rattle.theory.specs.PlaceLaws.{getElem-in}
@@ -23,11 +23,11 @@ module _ (constants : ℕ) (declared : List ℕ) (limits : CodeLimits constants 
   place-range i = omega (arith, argument-at constants declared limits a h i)
 
   symbol-told : codeSymbol (atomCode a) ≡ a .symbol - 1
-  unfolding codeSymbol atomCode
+  unfolding codeSymbol atomCode codeOf
   symbol-told = omega (arith, h .declared, limits .symbols, place-range 0 .0, place-range 1 .0, place-range 2 .0)
 
   constant-told : (i : ℕ) → i < 3 → codeConstant (atomCode a) i ≡ getD (a .args) i 1
-  unfolding codeConstant atomCode
+  unfolding codeConstant atomCode codeOf
   constant-told zero l = omega (arith, place-range 0, place-range 1 .0, place-range 2 .0)
   constant-told (suc zero) l = omega (arith, place-range 1, place-range 2 .0)
   constant-told (suc (suc zero)) l = omega (arith, place-range 2)

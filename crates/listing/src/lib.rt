@@ -23,13 +23,6 @@ use encoding::values;
 use search::Ended;
 use search::Run;
 
-// A byte as a wider number; through a call the proof knows that it is one.
-fn widened(x: u8) -> u16
-    ensures { λ r. ⌜ (r ≡ x) × (r < 256) ⌝ }
-{
-    x as u16
-}
-
 // LF.
 fn put_end(room: &mut [u8], at: usize) -> usize
     requires { ⌜ at + 1 ≤ length (now room) ⌝ }
@@ -97,7 +90,7 @@ fn put_literal(
     ensures { λ r. ⌜ Put (now (room .entry)) at (columnBytes (codeNumbers (now (arities .entry)) negative code)) r (now (room .exit)) ⌝ }
 {
     let symbol = (code / 32768 % 16) as usize;
-    let arity = widened(arities[symbol]) as usize;
+    let arity = encoding::wide8(arities[symbol]);
     let behind = put_number(room, at, negative, symbol as u16 + 1);
     put_constants(room, behind, code, arity)
 }
@@ -150,7 +143,7 @@ fn put_logged(
     let next = c + 1;
     let from = starts[c] as usize;
     let end = starts[next] as usize;
-    let rule = widened(numbers[n]);
+    let rule = encoding::widened(numbers[n]);
     let count = (end - from) as u16;
     let one = put_number(room, at, false, 6);
     let two = put_number(room, one, false, rule);
@@ -383,7 +376,7 @@ pub fn put_refusal(room: &mut [u8], number: u8, line: u16) -> usize
     requires { ⌜ length (refusalLine number line) ≤ length (now room) ⌝ }
     ensures { λ r. ⌜ Put (now (room .entry)) 0 (refusalLine number line) r (now (room .exit)) ⌝ }
 {
-    let question = widened(number);
+    let question = encoding::widened(number);
     let one = put_number(room, 0, false, 9);
     let two = put_number(room, one, false, question);
     let three = put_number(room, two, false, line);

@@ -10,7 +10,9 @@ use Rattle.definitions.specs.Search.{decided, flipped, forced}
 use Rattle.encoding.specs.Values.{assigned}
 use Rattle.units.specs.Units.{actFrom}
 use Rattle.units.specs.TrailWords.{markOf, latestDecision, cleared, firstUnset}
-use Rattle.walk.specs.Walk.{ruleVariables, fillingOf, walkFrom}
+use Rattle.rules.specs.Rules.{ruleVariables}
+use Rattle.rules.specs.Fillings.{fillingOf}
+use Rattle.walk.specs.Walk.{walkFrom}
 use Rattle.log.specs.Logging.{Log, logUnder}
 use Rattle.search.specs.Machine.{Machine, machine, logIn}
 use Rattle.search.specs.declared.Run.{Run}

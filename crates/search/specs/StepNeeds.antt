@@ -22,16 +22,18 @@ use Rattle.units.specs.ClausesStand.{actWord}
 use Rattle.units.specs.TrailWords.{latestDecision, firstUnset}
 use Rattle.units.specs.LiteralWords.{word-small}
 use Rattle.units.specs.TrailLaws.{words-small}
-use Rattle.walk.specs.Walk.{codeUnder, trueUnder, headSlots, ruleVariables, fillingOf, firesUnder, firesAt, firstFrom, fillingCount, walkFrom, RulesFit, IndexFits}
-use Rattle.walk.specs.RuleStands.{rules-fit}
+use Rattle.rules.specs.Rules.{codeUnder, trueUnder, headSlots, ruleVariables, RulesFit, IndexFits}
+use Rattle.rules.specs.Fillings.{fillingOf, fillingCount}
+use Rattle.walk.specs.Walk.{firesUnder, firesAt, firstFrom, walkFrom}
+use Rattle.rules.specs.RuleStands.{rules-fit}
 use Rattle.log.specs.Logging.{LogFits}
-use Rattle.log.specs.LogLaws.{found-below, fewer-fit}
+use Rattle.walk.specs.WalkLaws.{found-below, firstFrom-passes}
+use Rattle.rules.specs.RuleLaws.{fewer-fit}
 use Rattle.search.specs.Machine.{Machine, logIn, Stands, Running}
 use Rattle.search.specs.StandsLaws.{room-for, act-as, unit-unset, back-none, back-some, goal-unset, goal-none, goal-some}
 use Rattle.search.specs.declared.Run.{Run}
 use Rattle.units.specs.declared.Act.the-variants.{Force, Nothing}
 use Rattle.walk.specs.declared.Found.the-variants.{Instance}
-use Rattle.walk.specs.WalkLaws.{firstFrom-passes}
 
 -- a word is forced where a literal is
 force-of : (table : List Atom) (o : Option Act) (w : ℕ) → actWord table o ≡ Force w → (l : Literal) × (o ≡ some (force l)) × (w ≡ literalWord table l)

@@ -30,7 +30,7 @@ use Rattle.units.specs.Stacks.{length-cleared}
 use Rattle.units.specs.TrailLaws.{room-kept, set-stands, grown-stands}
 use Rattle.units.specs.BacktrackLaws.{zero-backtrack-none}
 use Rattle.walk.specs.Walk.{walkFrom}
-use Rattle.walk.specs.RuleStands.{rule-variables}
+use Rattle.rules.specs.RuleStands.{rule-variables}
 use Rattle.walk.specs.WalkStands.{WalkAs}
 use Rattle.log.specs.Logging.{Log, logOf}
 use Rattle.log.specs.LogHolds.{LogHolds}

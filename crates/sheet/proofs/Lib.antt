@@ -4,7 +4,7 @@ pub mod ClauseSlots
 pub mod CountColumns
 pub mod CountLines
 pub mod Entries
-pub mod Fours
+pub mod CoverTurns
 pub mod LineKinds
 pub mod Literals
 pub mod RowLoops

@@ -4,6 +4,7 @@ use mathlib.Core.Bool.{true, false}
 use mathlib.Core.List.{List}
 use lib.Dec.{eqb}
 use lib.ListN.{getD, set}
+use Rattle.encoding.specs.Encoding.{codeOf}
 
 -- a slot of a clause: its symbol is one of 16, and no term is above constant 32
 pub record ClauseSlot (slots : List ℕ) (base : ℕ) : Type 0 where
@@ -20,7 +21,7 @@ ClauseSlots slots count = (i : ℕ) → i < count → ClauseSlot slots (4 * i)
 -- the code of the atom in a slot whose terms are constants
 unfoldable pub slotCode : List ℕ → ℕ → ℕ
 slotCode slots base =
-    (((getD slots base 0 / 2 - 1) * 32 + (getD slots (base + 1) 0 - 7)) * 32 + (getD slots (base + 2) 0 - 7)) * 32 + (getD slots (base + 3) 0 - 7)
+    codeOf (getD slots base 0 / 2 - 1) (getD slots (base + 1) 0 - 7) (getD slots (base + 2) 0 - 7) (getD slots (base + 3) 0 - 7)
 
 -- the number of atoms and of literals, and the arrays that a clause changes
 pub record Entered : Type 0 where

@@ -1,10 +1,6 @@
 pub mod Walk
-pub mod Fillings
-pub mod Firing
 pub mod WalkLaws
-pub mod RuleSlots
-pub mod Masks
-pub mod MaskLaws
+pub mod Firing
 pub mod Candidates
 pub mod RuleBits
 pub mod Nested
@@ -14,6 +10,4 @@ pub mod Pruned
 pub mod Numbered
 pub mod CandidateLaws
 pub mod MaskedWalkLaws
-pub mod Substitutions
-pub mod RuleStands
 pub mod WalkStands

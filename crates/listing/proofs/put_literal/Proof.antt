@@ -10,7 +10,7 @@ use Rattle.listing.proofs.Parts.{literal-first}
 use Rattle.listing.proofs.put_literal.Statement.{statement}
 use Rattle.listing.proofs.put_literal.Tie as tie
 
-abbrev start : tie.After-widened → tie.Start
+abbrev start : tie.After-wide8 → tie.Start
 start c = c .before .before .before
 
 constants-left : (c : tie.After-put-number)
@@ -18,22 +18,19 @@ constants-left : (c : tie.After-put-number)
     (start (c .before .before) .args .room .now)
     (start (c .before .before) .args .at)
     (columnBytes (codeNumbers (start (c .before .before) .args .arities .now) (start (c .before .before) .args .negative) (start (c .before .before) .args .code)))
-    (columnBytes (map (constantNumber (start (c .before .before) .args .code)) (upFrom 0 (c .before .before .widened .result))))
+    (columnBytes (map (constantNumber (start (c .before .before) .args .code)) (upFrom 0 (c .before .before .wide8 .result))))
     (c .put-number .result)
     (c .put-number .last .0)
-constants-left c = put-first (put-none-yet refl) (literal-first _ _ _ (c .before .before .widened .ensures .0)) (c .put-number .ensures)
+constants-left c = put-first (put-none-yet refl) (literal-first _ _ _ (c .before .before .wide8 .ensures .0)) (c .put-number .ensures)
 
 cast-symbol : tie.Need-cast-symbol
 cast-symbol c = search needs
 
-element-copy-out-widened : tie.Need-element-copy-out-widened
-element-copy-out-widened c = search needs
+element-copy-out-wide8 : tie.Need-element-copy-out-wide8
+element-copy-out-wide8 c = search needs
 
-widened-requires : tie.Need-widened-requires
-widened-requires c κs = search needs
-
-cast-arity : tie.Need-cast-arity
-cast-arity c = search needs
+wide8-requires : tie.Need-wide8-requires
+wide8-requires c κs = search needs
 
 cast-put-number : tie.Need-cast-put-number
 cast-put-number c = search needs
@@ -44,7 +41,7 @@ add-put-number c = search needs
 put-number-requires : tie.Need-put-number-requires
 put-number-requires c κs =
     let s = start (c .before) in
-    (parts-room (literal-first (s .args .arities .now) (s .args .negative) (s .args .code) (c .before .widened .ensures .0)) _ _ (s .pre), λ e. omega arith)
+    (parts-room (literal-first (s .args .arities .now) (s .args .negative) (s .args .code) (c .before .wide8 .ensures .0)) _ _ (s .pre), λ e. omega arith)
 
 put-constants-requires : tie.Need-put-constants-requires
 put-constants-requires c κs =
@@ -64,9 +61,8 @@ put-literal-spec =
     tie.close
     (tie.spec
     cast-symbol
-    element-copy-out-widened
-    widened-requires
-    cast-arity
+    element-copy-out-wide8
+    wide8-requires
     cast-put-number
     add-put-number
     put-number-requires

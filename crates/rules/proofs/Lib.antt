@@ -1,0 +1,2 @@
+pub mod SlotTurns
+pub mod FillingTurns
