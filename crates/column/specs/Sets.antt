@@ -4,7 +4,7 @@ use mathlib.Core.Path.{_≡_, refl, _∙_}
 use mathlib.Core.List.{List, [], _∷_, _++_}
 use native.Mathlib.Omega.{arith}
 use lib.ListN.{length, set, take, drop}
-use lib.Seq.{sets, sets-eq, set-comm, take-append-seam, drop-append-seam}
+use lib.Seq.{sets, sets-eq, set-comm, take-append-seam}
 
 module _ {A : Type 0} where
   -- two runs, the second behind the first, are one
@@ -13,6 +13,10 @@ module _ {A : Type 0} where
   sets-append l i (x ∷ a) b =
       let e : i + suc (length a) ≡ suc i + length a = omega arith in
       rw e (sets-append (set l i x) (suc i) a b)
+
+  -- a run from the start with what stands behind it, at a place that was counted
+  pub sets-more : (l a b : List A) (n : ℕ) → n ≡ length a → sets (sets l 0 a) n b ≡ sets l 0 (a ++ b)
+  sets-more l a b n e = let q : n ≡ 0 + length a = omega arith in rw q (sets-append l 0 a b)
 
   -- a store in front of a run may come first
   set-before : (l : List A) (i j : ℕ) (x : A) (b : List A) → i < j → set (sets l j b) i x ≡ sets (set l i x) j b
@@ -34,6 +38,3 @@ module _ {A : Type 0} where
 
     pub front : take (length bytes) (sets l 0 bytes) ≡ bytes
     front = rw sets-front (take-append-seam bytes (drop (length bytes) l))
-
-    pub behind : drop (length bytes) (sets l 0 bytes) ≡ drop (length bytes) l
-    behind = rw sets-front (drop-append-seam bytes (drop (length bytes) l))

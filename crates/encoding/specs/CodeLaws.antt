@@ -3,7 +3,7 @@ use Prim.Native.Nat.{ℕ, zero, suc, _+_, _-_, _*_, _≤_, _<_}
 use mathlib.Core.Path.{_≡_, refl, sym, _∙_, ap}
 use mathlib.Core.Logic.{inl, inr}
 use mathlib.Core.Bool.{true, false}
-use mathlib.Core.List.{List, [], _∷_, List·Memᴰ·head, List·Memᴰ·tail, List·Memᴰ·cases-cons, List·Memᴰ·not-nil, Memᴰ·cast}
+use mathlib.Core.List.{List, [], _∷_, _++_, List·Memᴰ·head, List·Memᴰ·tail, List·Memᴰ·cases-cons, List·Memᴰ·not-nil, Memᴰ·cast}
 use native.Mathlib.Omega.{arith}
 use lib.ListN.{length, getD, set, length-set, length-replicate}
 use lib.Seq.{ext-getD, getD-set-same, getD-set-other}
@@ -95,6 +95,16 @@ unfolding indexFrom
 index-bounded n [] index h k = omega (arith, h k)
 index-bounded n (g ∷ gs) index h k =
     omega (arith, index-bounded (suc n) gs (set index (atomCode g) (suc n)) (set-bounded index (atomCode g) (suc n) (suc n) (λ j. omega (arith, h j)) (omega arith)) k)
+
+-- an atom behind the others
+pub index-more :
+    (n : ℕ) (gs : List Atom) (a : Atom) (index : List ℕ)
+    → indexFrom n (gs ++ (a ∷ [])) index ≡ set (indexFrom n gs index) (atomCode a) (n + length gs + 1)
+unfolding indexFrom
+index-more n [] a index = let e : suc n ≡ n + 0 + 1 = omega arith in rw e
+index-more n (g ∷ gs) a index =
+    let e : suc n + length gs + 1 ≡ n + suc (length gs) + 1 = omega arith in
+    rw e at (index-more (suc n) gs a (set index (atomCode g) (suc n)))
 
 pub empty-at : (k : ℕ) → getD emptyIndex k 0 ≡ 0
 unfolding emptyIndex

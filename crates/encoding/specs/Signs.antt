@@ -2,8 +2,10 @@
 use Prim.Native.Nat.{ℕ, suc, _+_, _-_, _*_, _/_, _%_}
 use mathlib.Core.Path.{_≡_}
 use mathlib.Core.Bool.{Bool, true, false}
+use mathlib.Core.List.{List, map}
 use native.Mathlib.Omega.{arith}
 use lib.Dec.{eqb}
+use lib.ListN.{take}
 use borrow.Author.Tests.{eq-eqb, ne-eqb}
 use Rattle.definitions.specs.Sheet.{Number}
 
@@ -12,6 +14,10 @@ wordOf negative size = elim negative [ true ↦ 2 * size + 1 | false ↦ 2 * siz
 
 unfoldable pub numberOf : ℕ → Number
 numberOf w = record { negative = eqb (w % 2) 1; size = w / 2 }
+
+-- the numbers of the first words of a row
+unfoldable pub numbers : ℕ → List ℕ → List Number
+numbers n row = map numberOf (take n row)
 
 pub number-word : (negative : Bool) (size : ℕ) → numberOf (wordOf negative size) ≡ record { negative = negative; size = size }
 unfolding wordOf numberOf
@@ -28,6 +34,16 @@ pub wordOf-half : (negative : Bool) (size : ℕ) → wordOf negative size / 2 �
 unfolding wordOf
 wordOf-half true size = omega arith
 wordOf-half false size = omega arith
+
+pub word-number : (negative : Bool) (n : ℕ) → wordOf negative n ≡ 2 * n + wordOf negative 0
+unfolding wordOf
+word-number true n = omega arith
+word-number false n = omega arith
+
+pub word-sign : (negative : Bool) (n : ℕ) → wordOf negative n % 2 ≡ wordOf negative 0
+unfolding wordOf
+word-sign true n = omega arith
+word-sign false n = omega arith
 
 -- a literal's word by the place of its atom and the sign of another word
 pub same-sign : (negative : Bool) (symbol place : ℕ) → 2 * (suc place - 1) + wordOf negative symbol % 2 ≡ wordOf negative place

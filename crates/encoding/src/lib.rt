@@ -10,11 +10,23 @@ pub const CONSTANTS: usize = 32;
 
 pub const SYMBOLS: usize = 16;
 
+pub const ARITY: usize = 3;
+
+pub const VARIABLES: usize = 6;
+
 pub const RULES: usize = 32;
+
+pub const HEADS: usize = 3;
+
+pub const BODY: usize = 2;
 
 pub const CLAUSES: usize = 64;
 
+pub const CLAUSE_LITERALS: usize = 8;
+
 pub const GOALS: usize = 64;
+
+pub const COLUMNS: usize = 34; // of a line
 
 pub const ATOMS: usize = 256;
 
@@ -29,6 +41,13 @@ pub const STARTS: usize = 578;
 pub const LITERALS: usize = 2568;
 
 pub const CODES: usize = 524288;
+
+// A rule's words: both counts, and five slots. A term's word: a constant's stand behind those of the variables.
+pub const RULE_SIZE: usize = 22;
+
+pub const RULE_SLOTS: usize = 20;
+
+pub const FIRST_CONSTANT: usize = 7;
 
 // How much of each array is in use.
 pub struct Sizes {

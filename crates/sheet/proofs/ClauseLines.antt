@@ -14,12 +14,11 @@ use Rattle.definitions.specs.Questions.{Asked, no, yes, _>>=_, _>>_, ask, Walk,
 use Rattle.theory.specs.ListLaws.{Each}
 use Rattle.theory.specs.AskedLaws.{by-asked}
 use Rattle.theory.specs.Limits.{within-between}
-use Rattle.encoding.specs.Signs.{numberOf}
-use Rattle.sheet.specs.Rows.{numbers}
-use Rattle.sheet.specs.SlotReads.{argument, SlotsRead}
+use Rattle.encoding.specs.Signs.{numberOf, numbers}
+use Rattle.literals.specs.SlotReads.{argument, SlotsRead}
 use Rattle.encoding.specs.Slots.{slotWords}
-use Rattle.sheet.specs.SlotLaws.{literals-length, clause-literals, PatternRead, patterns-read}
-use Rattle.sheet.specs.Entering.{ClauseSlots, Entered, entered, enterSlots}
+use Rattle.literals.specs.SlotReadLaws.{literals-length, clause-literals, PatternRead, patterns-read}
+use Rattle.literals.specs.Entering.{ClauseSlots, Entered, entered, enterSlots}
 use Rattle.sheet.specs.LineReads.{moreClauses, clauseEntered, clauseAnswer, ClauseRead}
 use Rattle.encoding.specs.declared.Sizes.{Sizes}
 use Rattle.sheet.specs.declared.LineRead.{LineRead}
@@ -34,26 +33,26 @@ clause-refused s a b c d e f g h p = rw p refl
 
 -- ── the count ──
 
-abbrev pub clauseAt : ℕ → List ℕ → ℕ → List ℕ → ℕ → Asked Clause
-clauseAt n row constants arities clauses = clauseAsked constants arities clauses (drop 1 (numbers n row))
+abbrev pub clauseOfRow : ℕ → List ℕ → ℕ → List ℕ → ℕ → Asked Clause
+clauseOfRow n row constants arities clauses = clauseAsked constants arities clauses (drop 1 (numbers n row))
 
 module _ (n : ℕ) (row : List ℕ) (constants : ℕ) (arities : List ℕ) (clauses : ℕ) where
-  pub literals-missing : n < 2 → clauseAt n row constants arities clauses ≡ no 8
+  pub literals-missing : n < 2 → clauseOfRow n row constants arities clauses ≡ no 8
   unfolding clauseAsked clauseCount _>>=_
   literals-missing h = rw (count-missing n row 1 8 0 8 (omega arith))
 
   module _ (fits : n ≤ length row) (two : 2 ≤ n) where
-    pub literals-out : within 0 8 (numberOf (getD row 1 0)) ≡ false → clauseAt n row constants arities clauses ≡ no 8
+    pub literals-out : within 0 8 (numberOf (getD row 1 0)) ≡ false → clauseOfRow n row constants arities clauses ≡ no 8
     unfolding clauseAsked clauseCount _>>=_
     literals-out h = rw (count-out n row 1 8 0 8 fits (omega arith) h)
 
     module _ (read : within 0 8 (numberOf (getD row 1 0)) ≡ true) where
-      pub clauses-full : clauses ≡ 64 → clauseAt n row constants arities clauses ≡ no 9
+      pub clauses-full : clauses ≡ 64 → clauseOfRow n row constants arities clauses ≡ no 9
       unfolding clauseAsked clauseCount ask _>>=_ _>>_
       clauses-full h = rw (count-in n row 1 8 0 8 fits (omega arith) read, h)
 
       clause-counted : clauses < 64
-          → clauseAt n row constants arities clauses ≡ clauseBehind constants arities (record { found = getD row 1 0 / 2; left = drop 2 (numbers n row) })
+          → clauseOfRow n row constants arities clauses ≡ clauseBehind constants arities (record { found = getD row 1 0 / 2; left = drop 2 (numbers n row) })
       unfolding clauseAsked clauseCount ask _>>=_ _>>_
       clause-counted h = rw (count-in n row 1 8 0 8 fits (omega arith) read, lt-ltb clauses 64 h)
 
@@ -85,12 +84,12 @@ grounded constants arities k ns =
 
 module _ (n : ℕ) (row : List ℕ) (s : Sizes) (arities : List ℕ) (first next : ℕ) (before after : List ℕ) (k : ClauseCounted n row s first)
     (r : SlotsRead (literals (argument false (s .constants)) patternOf arities (first / 2) (drop 2 (numbers n row))) n next before after) where
-  behind-count : clauseAt n row (s .constants) arities (s .clauses) ≡ clauseFrom (literals (argument false (s .constants)) patternOf arities (first / 2) (drop 2 (numbers n row)))
+  behind-count : clauseOfRow n row (s .constants) arities (s .clauses) ≡ clauseFrom (literals (argument false (s .constants)) patternOf arities (first / 2) (drop 2 (numbers n row)))
   behind-count =
       clause-counted n row (s .constants) arities (s .clauses) (k .fits) (k .two) (k .read) (k .room)
       ∙ rw (← k .word) (grounded (s .constants) arities (first / 2) (drop 2 (numbers n row)))
 
-  pub clause-unread : next ≡ 0 → clauseAt n row (s .constants) arities (s .clauses) ≡ no 10
+  pub clause-unread : next ≡ 0 → clauseOfRow n row (s .constants) arities (s .clauses) ≡ no 10
   unfolding clauseFrom
   clause-unread h =
       rw (behind-count, slots-refused false _ _ n row 2 _ next before after (k .fits) (omega arith) (k .two) r h)
@@ -99,14 +98,14 @@ module _ (n : ℕ) (row : List ℕ) (s : Sizes) (arities : List ℕ) (first next
     walked : SlotsWalked (literals (argument false (s .constants)) patternOf arities (first / 2) (drop 2 (numbers n row))) n next before after
     walked = slots-walked false _ _ n row 2 _ next before after (k .fits) (omega arith) (k .two) r read
 
-    pub clause-over : next < n → clauseAt n row (s .constants) arities (s .clauses) ≡ no 11
+    pub clause-over : next < n → clauseOfRow n row (s .constants) arities (s .clauses) ≡ no 11
     unfolding ask _>>_ clauseFrom
     clause-over h = rw (behind-count, walked .read, left-over (walked .walk .left) (walked .columns) h)
 
     clause : Clause
     clause = map (ground []) (walked .walk .found)
 
-    clause-found : n ≤ next → clauseAt n row (s .constants) arities (s .clauses) ≡ yes clause
+    clause-found : n ≤ next → clauseOfRow n row (s .constants) arities (s .clauses) ≡ yes clause
     unfolding ask _>>_ clauseFrom clause
     clause-found h = rw (behind-count, walked .read, none-left (walked .walk .left) (walked .columns) h)
 
@@ -140,7 +139,7 @@ module _ (n : ℕ) (row : List ℕ) (s : Sizes) (arities : List ℕ) (first next
 
         module _ (starts : List ℕ) where
           clause-held : (a : LineRead) → a ≡ clauseAnswer result s
-              → ClauseRead (clauseAt n row (s .constants) arities (s .clauses)) a s
+              → ClauseRead (clauseOfRow n row (s .constants) arities (s .clauses)) a s
               starts (set starts (s .clauses + 1) (s .literals + first / 2)) literals₀ literals₁ table₀ table₁ index₀ index₁
           clause-held a e =
               let same = sym clause-enters in
@@ -154,13 +153,13 @@ module _ (n : ℕ) (row : List ℕ) (s : Sizes) (arities : List ℕ) (first next
               })
 
           pub clause-many : 64 < atoms
-              → ClauseRead (clauseAt n row (s .constants) arities (s .clauses)) (No 13) s
+              → ClauseRead (clauseOfRow n row (s .constants) arities (s .clauses)) (No 13) s
               starts (set starts (s .clauses + 1) (s .literals + first / 2)) literals₀ literals₁ table₀ table₁ index₀ index₁
           unfolding clauseAnswer
           clause-many h = clause-held (No 13) (cc (lt-leb atoms 64 h))
 
           pub clause-read : atoms ≤ 64
-              → ClauseRead (clauseAt n row (s .constants) arities (s .clauses)) (Yes (moreClauses result s)) s
+              → ClauseRead (clauseOfRow n row (s .constants) arities (s .clauses)) (Yes (moreClauses result s)) s
               starts (set starts (s .clauses + 1) (s .literals + first / 2)) literals₀ literals₁ table₀ table₁ index₀ index₁
           unfolding clauseAnswer
           clause-read h = clause-held (Yes (moreClauses result s)) (cc (le-leb atoms 64 h))

@@ -11,10 +11,10 @@ use Rattle.definitions.specs.Words.{Term, constant, Pattern}
 use Rattle.definitions.specs.Instances.{termValue, ground}
 use Rattle.theory.specs.ListLaws.{Each}
 use Rattle.encoding.specs.Slots.{asPattern, termWord, termWords, patternWords, slotWords}
-use Rattle.sheet.specs.SlotLaws.{TermInRange, constant-only, PatternRead}
+use Rattle.literals.specs.SlotReadLaws.{TermInRange, constant-only, PatternRead}
 use Rattle.encoding.specs.SlotLaws.{termWords-length, pattern-length}
-use Rattle.sheet.specs.ClauseSlotLaws.{word-size}
-use Rattle.sheet.specs.Entering.{ClauseSlot, ClauseSlots, slotCode, Entered, enterSlots}
+use Rattle.encoding.specs.Signs.{wordOf-half}
+use Rattle.literals.specs.Entering.{ClauseSlot, ClauseSlots, slotCode, Entered, enterSlots}
 
 -- ── the limits ──
 
@@ -43,7 +43,7 @@ module _ (constants : ℕ) (few : constants ≤ 32) where
     pattern-slot : (x : Pattern) (rest : List ℕ) → PatternRead false constants arities x → ClauseSlot (patternWords x ++ rest) 0
     unfolding patternWords
     pattern-slot x rest r =
-        let e = word-size (not (x .positive)) (x .symbol) in
+        let e = wordOf-half (not (x .positive)) (x .symbol) in
         record {
           symbol = omega (arith, r .symbol);
           declared = omega (arith, r .declared);

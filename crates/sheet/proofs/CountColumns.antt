@@ -6,8 +6,7 @@ use mathlib.Core.List.{List}
 use lib.ListN.{length, getD, drop}
 use Rattle.definitions.specs.Lists.{isEmpty}
 use Rattle.definitions.specs.Questions.{no, yes, _>>_, ask, within, count}
-use Rattle.encoding.specs.Signs.{numberOf}
-use Rattle.sheet.specs.Rows.{numbers}
+use Rattle.encoding.specs.Signs.{numberOf, numbers}
 use Rattle.sheet.specs.RowLaws.{numbers-cons, numbers-end}
 
 module _ (n : ℕ) (row : List ℕ) (i : ℕ) where

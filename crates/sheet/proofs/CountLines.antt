@@ -7,8 +7,7 @@ use native.Mathlib.Omega.{arith}
 use lib.ListN.{length, getD, set, drop}
 use borrow.Author.Tests.{lt-ltb}
 use Rattle.definitions.specs.Questions.{Asked, no, yes, _>>=_, _>>_, ask, within, constantsAsked, arityAsked}
-use Rattle.encoding.specs.Signs.{numberOf}
-use Rattle.sheet.specs.Rows.{numbers}
+use Rattle.encoding.specs.Signs.{numberOf, numbers}
 use Rattle.sheet.specs.LineReads.{moreConstants, moreSymbols, ConstantsRead, SymbolRead}
 use Rattle.encoding.specs.declared.Sizes.{Sizes}
 use Rattle.sheet.specs.declared.LineRead.the-variants.{No, Yes}

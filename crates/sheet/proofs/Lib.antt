@@ -1,12 +1,8 @@
-pub mod Arguments
 pub mod ClauseLines
 pub mod ClauseSlots
 pub mod CountColumns
 pub mod CountLines
-pub mod Entries
-pub mod CoverTurns
 pub mod LineKinds
-pub mod Literals
 pub mod RowLoops
 pub mod RowQuestions
 pub mod RowTests
@@ -14,4 +10,3 @@ pub mod RuleLines
 pub mod RulePlaces
 pub mod Sheets
 pub mod SlotWalks
-pub mod Terms

@@ -10,8 +10,8 @@ use lib.Seq.{drop-cons}
 use borrow.Author.Tests.{ne-eqb}
 use Rattle.definitions.specs.Sheet.{Number, number, fault, decimal}
 use Rattle.definitions.specs.Questions.{Asked, no, yes, _>>=_, asNumber, columns}
-use Rattle.encoding.specs.Signs.{wordOf}
-use Rattle.sheet.specs.Rows.{numbers, lineLength}
+use Rattle.encoding.specs.Signs.{wordOf, numbers}
+use Rattle.sheet.specs.Rows.{lineLength}
 use Rattle.encoding.specs.Signs.{number-word}
 use Rattle.sheet.specs.RowLaws.{numbers-set}
 

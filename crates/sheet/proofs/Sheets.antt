@@ -18,8 +18,8 @@ use Rattle.definitions.specs.Questions.{Asked, no, yes, asNumber, columns, good
 use Rattle.theory.specs.Tests.{by-test, apart, and-left, and-right}
 use Rattle.theory.specs.AskedLaws.{bind-yes, ask-yes}
 use Rattle.theory.specs.Limits.{line-begun}
-use Rattle.encoding.specs.Signs.{numberOf}
-use Rattle.sheet.specs.Rows.{numbers, lineLength, kindHere}
+use Rattle.encoding.specs.Signs.{numberOf, numbers}
+use Rattle.sheet.specs.Rows.{lineLength, kindHere}
 use Rattle.sheet.specs.RowLaws.{lineLength-le, lines-none, lines-ended, lines-unended}
 use Rattle.encoding.specs.Encoding.{startsFrom, indexFrom, emptyIndex, sizesOf, Arrays, arrays, hold}
 use Rattle.sheet.specs.LineReads.{Ready, LineHeld, columnsRead, SheetRead}

@@ -12,11 +12,11 @@ use Rattle.definitions.specs.Sheet.{Number}
 use Rattle.definitions.specs.Questions.{Asked, no, yes, Walk, literals, patternOf}
 use Rattle.theory.specs.AskedLaws.{by-asked}
 use Rattle.column.specs.Sets.{front, sets-front}
-use Rattle.sheet.specs.Rows.{numbers}
+use Rattle.encoding.specs.Signs.{numbers}
 use Rattle.sheet.specs.RowLaws.{numbers-length}
-use Rattle.sheet.specs.SlotReads.{argument, SlotsRead}
+use Rattle.literals.specs.SlotReads.{argument, SlotsRead}
 use Rattle.encoding.specs.Slots.{slotWords}
-use Rattle.sheet.specs.SlotLaws.{literals-fewer, literals-refusal}
+use Rattle.literals.specs.SlotReadLaws.{literals-fewer, literals-refusal}
 use Rattle.encoding.specs.SlotLaws.{slotWords-length, slotWords-append}
 
 -- ── a walk that is refused or not ──

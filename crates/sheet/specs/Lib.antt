@@ -1,10 +1,5 @@
 pub mod Rows
 pub mod RowLaws
-pub mod SlotReads
-pub mod SlotLaws
-pub mod Entering
-pub mod EnteringLaws
-pub mod ClauseSlotLaws
 pub mod HoldingLaws
 pub mod LineReads
 pub mod SheetLaws

@@ -10,7 +10,7 @@ use Rattle.definitions.specs.Words.{Clause, Rule}
 use Rattle.definitions.specs.Sheet.{Number}
 use Rattle.definitions.specs.Questions.{Asked, no, yes, constantsAsked, arityAsked, ruleAsked, clauseAsked, Reading, refused, accepted}
 use Rattle.encoding.specs.Slots.{asPattern, slotWords, ruleWords}
-use Rattle.sheet.specs.Entering.{Entered, entered, enterSlots}
+use Rattle.literals.specs.Entering.{Entered, entered, enterSlots}
 use Rattle.encoding.specs.Encoding.{Arrays, arrays, hold, sizesOf}
 use Rattle.encoding.specs.declared.Sizes.{Sizes}
 use Rattle.sheet.specs.declared.Read.{Read}

@@ -12,8 +12,8 @@ use Rattle.definitions.specs.Sheet.{putByte, lines, Number}
 use Rattle.definitions.specs.Questions.{yes, _>>=_, _>>_, ask, within, count, kindOf}
 use Rattle.theory.specs.Tests.{by-test, apart}
 use Rattle.theory.specs.Limits.{within-between}
-use Rattle.encoding.specs.Signs.{numberOf}
-use Rattle.sheet.specs.Rows.{numbers, lineLength, kindHere, kindAsked}
+use Rattle.encoding.specs.Signs.{numberOf, numbers}
+use Rattle.sheet.specs.Rows.{lineLength, kindHere, kindAsked}
 
 -- ── lines ──
 

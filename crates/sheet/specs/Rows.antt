@@ -1,16 +1,10 @@
--- The columns of a line as a row of words. Assumes nothing.
+-- A line by its bytes and its columns: where it ends, and its kind. Assumes nothing.
 use Prim.Native.Nat.{ℕ, zero, suc}
 use mathlib.Core.Bool.{Bool, true, false, _&&_}
-use mathlib.Core.List.{List, [], _∷_, map}
+use mathlib.Core.List.{List, [], _∷_}
 use lib.Dec.{eqb, leb}
-use lib.ListN.{take}
 use Rattle.definitions.specs.Sheet.{Number}
 use Rattle.definitions.specs.Questions.{Asked, no, yes, Walk, within}
-use Rattle.encoding.specs.Signs.{numberOf}
-
--- the numbers of the first words
-unfoldable pub numbers : ℕ → List ℕ → List Number
-numbers n row = map numberOf (take n row)
 
 -- question 6, by whether every column was a decimal
 unfoldable pub rowAsked : Bool → List Number → Asked (List Number)

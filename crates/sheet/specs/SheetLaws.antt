@@ -18,9 +18,10 @@ use Rattle.column.specs.Sets.{front}
 use Rattle.sheet.specs.Rows.{kindHere, kindAsked}
 use Rattle.sheet.specs.RowLaws.{kind-here}
 use Rattle.encoding.specs.Slots.{asPattern, slotWords}
-use Rattle.sheet.specs.Entering.{Entered}
+use Rattle.literals.specs.Entering.{Entered}
 use Rattle.encoding.specs.Encoding.{Arrays, emptyIndex, sizesOf, hold}
-use Rattle.sheet.specs.HoldingLaws.{enteredOf, hold-index-within, clause-held, hold-symbol, hold-rule, hold-clause}
+use Rattle.literals.specs.HeldClauseLaws.{enteredOf, hold-index-within, clause-held}
+use Rattle.sheet.specs.HoldingLaws.{hold-symbol, hold-rule, hold-clause}
 use Rattle.encoding.specs.HoldLaws.{Encodable, limits-encodable}
 use Rattle.sheet.specs.LineReads.{moreConstants, moreSymbols, moreRules, moreClauses, clauseEntered, clauseAnswer, Ready, withArities, withRules, withEntered, ConstantsHeld, SymbolHeld, RuleHeld, ClauseEntersHeld, LineHeld}
 use Rattle.encoding.specs.declared.Sizes.{Sizes}

@@ -1,7 +1,5 @@
 // A sheet's bytes to the problem's arrays, question by question.
 mod rows; // rows.rt: lines, and the columns of a line as words
-mod slots; // slots.rt: the literals of a line
-mod enter; // enter.rt: a clause into the arrays
 mod lines; // lines.rt: a line of each kind
 
 use definitions::Refusal;
@@ -10,15 +8,17 @@ ghost use mathlib.Core.Path.{_≡_};
 ghost use Prim.Native.Nat.{_+_, _-_, _/_, _≤_, _<_};
 ghost use lib.ListN.{drop};
 ghost use Rattle.definitions.specs.Questions.{read};
-ghost use Rattle.sheet.specs.Rows.{numbers};
+ghost use Rattle.encoding.specs.Signs.{numbers};
 ghost use Rattle.encoding.specs.Encoding.{arrays, emptyIndex};
 ghost use Rattle.sheet.specs.LineReads.{Ready, LineHeld, SheetRead};
 use encoding::ATOMS;
 use encoding::CODES;
+use encoding::COLUMNS;
 use encoding::LITERALS;
 use encoding::RULE_WORDS;
 use encoding::STARTS;
 use encoding::SYMBOLS;
+use literals::SLOTS;
 
 // The most bytes of a sheet.
 pub const SHEET_BYTES: usize = 16384;
@@ -38,10 +38,10 @@ pub enum LineRead {
 // A line of kind k, from its columns behind the kind.
 fn line_of_kind(
     kind: usize,
-    row: &[u16; 34],
+    row: &[u16; COLUMNS],
     n: usize,
     s: Sizes,
-    slots: &mut [u16; 32],
+    slots: &mut [u16; SLOTS],
     arities: &mut [u8; SYMBOLS],
     rules: &mut [u16; RULE_WORDS],
     starts: &mut [u16; STARTS],
@@ -90,8 +90,8 @@ pub fn read_sheet(
     }
     // Lent as a slice, the array shows its length, which the proof needs.
     let _whole: &[u8] = arities;
-    let mut row = [0u16; 34];
-    let mut slots = [0u16; 32];
+    let mut row = [0u16; COLUMNS];
+    let mut slots = [0u16; SLOTS];
     let mut s = Sizes {
         constants: 0,
         symbols: 0,

@@ -4,10 +4,14 @@ ghost use Prim.Native.Nat.{_+_, _-_, _*_, _/_, _≤_, _<_};
 ghost use lib.Dec.{ltb};
 ghost use lib.ListN.{length, take, drop};
 ghost use Rattle.definitions.specs.Questions.{columns, within, columnsAsked};
-ghost use Rattle.encoding.specs.Signs.{wordOf, numberOf};
-ghost use Rattle.sheet.specs.Rows.{numbers, rowAsked, lineLength, kindHere};
+ghost use Rattle.encoding.specs.Signs.{wordOf, numberOf, numbers};
+ghost use Rattle.sheet.specs.Rows.{rowAsked, lineLength, kindHere};
 ghost use Rattle.sheet.specs.LineReads.{columnsRead};
 use column::Column;
+use encoding::COLUMNS;
+
+// The most bytes of a line, before its LF.
+const LINE_BYTES: usize = 4 * COLUMNS;
 
 // The place of the first LF from here on, or the sheet's length where there is none.
 pub fn line_end(sheet: &[u8], from: usize) -> usize
@@ -36,7 +40,7 @@ fn word(negative: bool, size: u16) -> u16
 }
 
 // Question 6: the columns of a line as words, or false where one is no decimal.
-pub fn read_row(sheet: &[u8], from: usize, count: usize, row: &mut [u16; 34]) -> bool
+pub fn read_row(sheet: &[u8], from: usize, count: usize, row: &mut [u16; COLUMNS]) -> bool
     requires { ⌜ (from + 4 * count ≤ length (now sheet)) × (count ≤ 34) ⌝ }
     ensures { λ r. ⌜ columns (take (4 * count) (drop from (now (sheet .entry)))) ≡ rowAsked r (numbers count (now (row .exit))) ⌝ }
 {
@@ -94,7 +98,7 @@ pub fn kind_here(before: usize, word: u16) -> usize
 }
 
 // Questions 4 to 6 of the line that ends here: its columns as words, and 0 or the question that is answered no.
-pub fn read_line(sheet: &[u8], from: usize, end: usize, row: &mut [u16; 34]) -> u8
+pub fn read_line(sheet: &[u8], from: usize, end: usize, row: &mut [u16; COLUMNS]) -> u8
     requires { ⌜ (from ≤ end) × (end ≤ length (now sheet)) ⌝ }
     ensures { λ r. ⌜ columnsAsked (record { bytes = take (end - from) (drop from (now (sheet .entry))); ended = ltb end (length (now (sheet .entry))) })
         ≡ columnsRead r (numbers ((end - from) / 4) (now (row .exit))) ⌝ }
@@ -106,7 +110,7 @@ pub fn read_line(sheet: &[u8], from: usize, end: usize, row: &mut [u16; 34]) -> 
     if length < 4 {
         return 5;
     }
-    if 136 < length {
+    if LINE_BYTES < length {
         return 5;
     }
     if length % 4 != 0 {

@@ -5,7 +5,8 @@ use native.Mathlib.Omega.{arith}
 use lib.ListN.{length, take, drop, length-set}
 use Rattle.definitions.specs.Questions.{columns}
 use Rattle.column.specs.Column.{columnOf, sizeOf}
-use Rattle.sheet.specs.Rows.{numbers, rowAsked}
+use Rattle.sheet.specs.Rows.{rowAsked}
+use Rattle.encoding.specs.Signs.{numbers}
 use Rattle.sheet.proofs.RowLoops.{rowFrom, row-start, row-turn, row-fault, row-end}
 use borrow.Author.Needs.{needs}
 use Rattle.sheet.proofs.rows.read_row.Statement.{statement}

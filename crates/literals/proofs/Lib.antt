@@ -1,0 +1,5 @@
+pub mod Arguments
+pub mod Terms
+pub mod Literals
+pub mod CoverTurns
+pub mod Entries

@@ -1,0 +1,8 @@
+// The literals of a line: into slots, and a clause's into the arrays.
+pub mod slots; // slots.rt: questions 10 and 12, over slots
+pub mod enter; // enter.rt: a clause into the arrays
+
+use encoding::CLAUSE_LITERALS;
+
+// The slots of a line: four words for each literal of a clause; a rule has fewer.
+pub const SLOTS: usize = 4 * CLAUSE_LITERALS;
