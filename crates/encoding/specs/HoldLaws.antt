@@ -1,6 +1,6 @@
 -- The limits by which the arrays hold a problem, and how long the parts are that they hold. Assumes nothing.
 use Prim.Native.Nat.{ℕ, _+_, _*_, _<_}
-use mathlib.Core.Path.{_≡_, refl, subst}
+use mathlib.Core.Path.{_≡_, refl, ap, subst}
 use mathlib.Core.List.{List, [], _∷_, _++_, map}
 use native.Mathlib.Omega.{arith}
 use lib.ListN.{length, replicate, length-append, length-map}
@@ -10,7 +10,8 @@ use Rattle.definitions.specs.Words.{Atom, Literal, plain, Clause, Rule, Problem
 use Rattle.theory.specs.WordLaws.{goal-from}
 use Rattle.theory.specs.Limits.{LiteralLimits, Limits, Searchable, limits-searchable}
 use Rattle.encoding.specs.Slots.{slotWords, ruleWords}
-use Rattle.encoding.specs.Encoding.{literalWord, clauseWords, startsFrom, atomCode}
+use Rattle.encoding.specs.Encoding.{literalWord, clauseWords, startsFrom, atomCode, sizesOf}
+use Rattle.encoding.specs.declared.Sizes.{Sizes}
 use Rattle.encoding.specs.CodeLaws.{CodeLimits, AtomLimits, code-small}
 
 -- the limits by which the arrays hold a problem's clauses
@@ -68,3 +69,22 @@ pub rules-length : (rs : List Rule) → length (joined ruleWords rs) ≡ 22 * le
 unfolding joined
 rules-length [] = refl
 rules-length (r ∷ rs) = omega (arith, length-append (ruleWords r) (joined ruleWords rs), rule-length r, rules-length rs)
+
+-- ── sizes ──
+
+module _ (p : Problem) {sizes : Sizes} (e : sizes ≡ sizesOf p) where
+  pub its-constants : sizes .constants ≡ p .constants
+  unfolding sizesOf
+  its-constants = ap (λ (x : Sizes). x .constants) e
+
+  pub its-rules : sizes .rules ≡ length (p .rules)
+  unfolding sizesOf
+  its-rules = ap (λ (x : Sizes). x .rules) e
+
+  pub its-clauses : sizes .clauses ≡ length (p .clauses)
+  unfolding sizesOf
+  its-clauses = ap (λ (x : Sizes). x .clauses) e
+
+  pub its-goals : sizes .atoms ≡ length (goalAtoms (p .clauses))
+  unfolding sizesOf
+  its-goals = ap (λ (x : Sizes). x .atoms) e

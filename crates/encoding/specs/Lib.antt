@@ -11,3 +11,4 @@ pub mod Values
 pub mod ValueLaws
 pub mod Standing
 pub mod TruthLaws
+pub mod Lent

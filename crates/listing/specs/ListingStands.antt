@@ -20,8 +20,7 @@ use Rattle.theory.specs.Unknown.{consistent}
 use Rattle.encoding.specs.Encoding.{atomCode, position, literalWord, clauseWords}
 use Rattle.encoding.specs.PositionLaws.{position-at, code-at}
 use Rattle.encoding.specs.HoldLaws.{searchable-encodable, plain-limits}
-use Rattle.encoding.specs.Signs.{numberOf}
-use Rattle.encoding.specs.Signs.{number-word}
+use Rattle.encoding.specs.Signs.{numberOf, number-word}
 use Rattle.encoding.specs.Values.{unsetAt, falseWord}
 use Rattle.encoding.specs.TruthLaws.{Consistent, by-truth, unset-at, false-word}
 use Rattle.encoding.specs.ArrayLaws.{front-at}

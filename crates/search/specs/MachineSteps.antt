@@ -1,51 +1,43 @@
 -- The steps of the machine, in the code's order of tests, and what a run of them comes to. Assumes nothing.
-use Prim.Native.Nat.{ℕ, zero, suc, _+_, _-_, _*_}
+use Prim.Native.Nat.{ℕ, zero, suc, _+_, _-_, _*_, _/_, _%_}
+use mathlib.Core.Path.{_≡_}
 use mathlib.Core.Bool.{true, false}
 use mathlib.Core.Option.{none, some}
 use mathlib.Core.List.{List}
+use denote.Triple.Both.{Both}
 use lib.Dec.{eqb, leb}
 use lib.ListN.{getD, set, take, drop}
 use Rattle.definitions.specs.declared.Verdict.the-variants.{Unsat, Unknown, Spent, Full}
 use Rattle.definitions.specs.Search.{decided, flipped, forced}
 use Rattle.encoding.specs.Values.{assigned}
-use Rattle.units.specs.Units.{actFrom}
 use Rattle.units.specs.TrailWords.{markOf, latestDecision, cleared, firstUnset}
+use Rattle.log.specs.Logging.{Log, logUnder}
+use Rattle.encoding.specs.declared.Sizes.{Sizes}
+use Rattle.encoding.specs.Lent.{TrailArrays, trailArrays}
+use Rattle.search.specs.Machine.{Machine, logIn, actOf, walkOf}
 use Rattle.rules.specs.Rules.{ruleVariables}
 use Rattle.rules.specs.Fillings.{fillingOf}
-use Rattle.walk.specs.Walk.{walkFrom}
-use Rattle.log.specs.Logging.{Log, logUnder}
-use Rattle.search.specs.Machine.{Machine, machine, logIn}
 use Rattle.search.specs.declared.Run.{Run}
 use Rattle.search.specs.declared.Next.{Next}
 use Rattle.search.specs.declared.Next.the-variants.{More, Done}
 use Rattle.units.specs.declared.Act.the-variants.{Conflict, Force, Nothing}
 use Rattle.walk.specs.declared.Found.the-variants.{Instance, Nowhere}
 
--- what a step answers, and the arrays afterwards
-pub record Stepped : Type 0 where
+-- what a step answers, and the arrays that it changes as it leaves them
+pub record Stepped (A : Type 0) : Type 0 where
   pub next : Next
-  pub arrays : Machine
+  pub arrays : A
 
-abbrev pub stepped : Next → Machine → Stepped
-stepped r m = record { next = r; arrays = m }
+abbrev pub stepped : {A : Type 0} → Next → A → Stepped A
+stepped r a = record { next = r; arrays = a }
 
 -- a literal is set at a place of the trail
-unfoldable pub setAt : ℕ → ℕ → ℕ → Machine → Machine
-setAt at w why m =
-    machine (m .starts) (m .literals) (m .heads) (m .numbers) (m .table) (m .index) (assigned (m .values) w) (set (m .trail) at w) (set (m .marks) at why)
+unfoldable pub setAt : ℕ → ℕ → ℕ → TrailArrays → TrailArrays
+setAt at w why t = trailArrays (assigned (t .values) w) (set (t .words) at w) (set (t .marks) at why)
 
 -- what was set from a place on is unset
-unfoldable pub undoFrom : ℕ → ℕ → Machine → Machine
-undoFrom at n m =
-    machine (m .starts) (m .literals) (m .heads) (m .numbers) (m .table) (m .index) (cleared (m .values) (take (n - at) (drop at (m .trail)))) (m .trail) (m .marks)
-
-unfoldable pub withLog : Log → Machine → Machine
-withLog l m = machine (l .starts) (l .literals) (l .heads) (l .numbers) (l .table) (l .index) (m .values) (m .trail) (m .marks)
-
--- the other arrays
-abbrev pub withTrail : List ℕ → List ℕ → List ℕ → Machine → Machine
-withTrail values trail marks m =
-    machine (m .starts) (m .literals) (m .heads) (m .numbers) (m .table) (m .index) values trail marks
+unfoldable pub undoFrom : ℕ → ℕ → TrailArrays → TrailArrays
+undoFrom at n t = trailArrays (cleared (t .values) (take (n - at) (drop at (t .words)))) (t .words) (t .marks)
 
 -- the counts that a step changes
 unfoldable pub oneSet : Run → Run
@@ -60,49 +52,79 @@ oneConflict n run = record { atoms = run .atoms; clauses = run .clauses; set = n
 unfoldable pub oneLogged : ℕ → Run → Run
 oneLogged atoms run = record { atoms = atoms; clauses = run .clauses + 1; set = run .set; decisions = run .decisions; conflicts = run .conflicts }
 
--- Conflict: the latest decision that stands at true is set to false
-unfoldable pub flipAt : ℕ → Machine → Run → Stepped
-flipAt zero m run = stepped (Done Unsat (oneConflict (run .set) run)) m
-flipAt (suc at) m run = stepped (More (oneConflict (suc at) run)) (setAt at (getD (m .trail) at 0 + 1) (markOf flipped) (undoFrom at (run .set) m))
+-- ── on the trail ──
 
-unfoldable pub conflictStep : Machine → Run → Stepped
-conflictStep m run = flipAt (latestDecision (m .marks) (run .set)) m run
+-- Conflict: the latest decision that stands at true is set to false
+unfoldable pub flipAt : ℕ → TrailArrays → Run → Stepped TrailArrays
+flipAt zero t run = stepped (Done Unsat (oneConflict (run .set) run)) t
+flipAt (suc at) t run = stepped (More (oneConflict (suc at) run)) (setAt at (getD (t .words) at 0 + 1) (markOf flipped) (undoFrom at (run .set) t))
+
+unfoldable pub conflictStep : TrailArrays → Run → Stepped TrailArrays
+conflictStep t run = flipAt (latestDecision (t .marks) (run .set)) t run
 
 -- A: a unit is set
-unfoldable pub unitStep : ℕ → Machine → Run → Stepped
-unitStep w m run = stepped (More (oneSet run)) (setAt (run .set) w (markOf forced) m)
-
--- B: an instance is logged
-unfoldable pub instanceStep : List ℕ → ℕ → ℕ → ℕ → ℕ → Machine → Run → Stepped
-instanceStep rules constants given r f m run =
-    elim (logUnder (m .values) rules (fillingOf constants (ruleVariables rules r) f) r given (logIn m run)) [
-      | none ↦ stepped (Done Full run) m
-      | some l ↦ stepped (More (oneLogged (l .atoms) run)) (withLog l m)
-    ]
+unfoldable pub unitStep : ℕ → TrailArrays → Run → Stepped TrailArrays
+unitStep w t run = stepped (More (oneSet run)) (setAt (run .set) w (markOf forced) t)
 
 -- C: the first unset goal atom is decided
-unfoldable pub decideStep : ℕ → ℕ → Machine → Run → Stepped
-decideStep budget a m run =
+unfoldable pub decideStep : ℕ → ℕ → TrailArrays → Run → Stepped TrailArrays
+decideStep budget a t run =
     elim (leb budget (run .decisions)) [
-      | true ↦ stepped (Done Spent run) m
-      | false ↦ stepped (More (oneDecided run)) (setAt (run .set) (2 * a) (markOf decided) m)
+      | true ↦ stepped (Done Spent run) t
+      | false ↦ stepped (More (oneDecided run)) (setAt (run .set) (2 * a) (markOf decided) t)
     ]
 
-unfoldable pub goalStep : ℕ → ℕ → Machine → Run → Stepped
-goalStep goals budget m run =
-    elim (eqb (firstUnset (m .values) 0 goals) goals) [
-      | true ↦ stepped (Done Unknown run) m
-      | false ↦ decideStep budget (firstUnset (m .values) 0 goals) m run
+unfoldable pub goalStep : ℕ → ℕ → TrailArrays → Run → Stepped TrailArrays
+goalStep goals budget t run =
+    elim (eqb (firstUnset (t .values) 0 goals) goals) [
+      | true ↦ stepped (Done Unknown run) t
+      | false ↦ decideStep budget (firstUnset (t .values) 0 goals) t run
     ]
+
+-- ── on the log ──
+
+-- B: an instance is logged
+unfoldable pub instanceStep : List ℕ → List ℕ → Sizes → ℕ → ℕ → Log → Run → Stepped Log
+instanceStep values rules sizes r f l run =
+    elim (logUnder values rules (fillingOf (sizes .constants) (ruleVariables rules r) f) r (sizes .clauses) l) [
+      | none ↦ stepped (Done Full run) l
+      | some k ↦ stepped (More (oneLogged (k .atoms) run)) k
+    ]
+
+-- ── on the machine ──
+
+abbrev pub withTrail : TrailArrays → Machine → Machine
+withTrail t m = record { store = m .store; table = m .table; trail = t }
+
+abbrev pub withLog : Log → Machine → Machine
+withLog l m = record { store = l .store; table = l .table; trail = m .trail }
+
+unfoldable pub onTrail : Machine → Stepped TrailArrays → Stepped Machine
+onTrail m x = stepped (x .next) (withTrail (x .arrays) m)
+
+unfoldable pub onLog : Machine → Stepped Log → Stepped Machine
+onLog m x = stepped (x .next) (withLog (x .arrays) m)
 
 -- A before B, B before C
-unfoldable pub machineStep : List ℕ → ℕ → ℕ → ℕ → ℕ → ℕ → Machine → Run → Stepped
-machineStep rules constants count given goals budget m run =
-    elim (actFrom (m .values) (m .starts) (m .literals) (m .heads) given goals 0 (run .clauses)) [
-      | Conflict ↦ conflictStep m run
-      | Force w ↦ unitStep w m run
-      | Nothing ↦ elim (walkFrom (m .values) (m .index) rules constants 0 count) [
-        | Instance r f ↦ instanceStep rules constants given r f m run
-        | Nowhere ↦ goalStep goals budget m run
+unfoldable pub machineStep : List ℕ → Sizes → ℕ → Machine → Run → Stepped Machine
+machineStep rules sizes budget m run =
+    elim (actOf sizes m run) [
+      | Conflict ↦ onTrail m (conflictStep (m .trail) run)
+      | Force w ↦ onTrail m (unitStep w (m .trail) run)
+      | Nothing ↦ elim (walkOf rules sizes m) [
+        | Instance r f ↦ onLog m (instanceStep (m .trail .values) rules sizes r f (logIn m run) run)
+        | Nowhere ↦ onTrail m (goalStep (sizes .atoms) budget (m .trail) run)
       ]
     ]
+
+-- ── what a function that makes such a step answers and leaves in the arrays that it is lent ──
+
+abbrev pub TrailStep : (TrailArrays → Run → Stepped TrailArrays) → Run → Next → Both TrailArrays TrailArrays → Type 0
+TrailStep step run r t = stepped r (t .exit) ≡ step (t .entry) run
+
+abbrev pub runAfter : Next → Run
+runAfter (More run) = run
+runAfter (Done v run) = run
+
+abbrev pub LogStep : (Log → Run → Stepped Log) → Run → Next → Both (ℕ → ℕ → Log) (ℕ → ℕ → Log) → Type 0
+LogStep step run r l = stepped r (l .exit (runAfter r .atoms) (runAfter r .clauses)) ≡ step (l .entry (run .atoms) (run .clauses)) run

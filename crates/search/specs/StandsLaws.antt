@@ -22,16 +22,16 @@ use Rattle.theory.specs.Ends.{Fits, step-fits}
 use Rattle.encoding.specs.Encoding.{position}
 use Rattle.units.specs.Units.{actFrom}
 use Rattle.encoding.specs.Standing.{TrueWords}
-use Rattle.encoding.specs.TruthLaws.{Consistent, true-word}
 use Rattle.units.specs.ClausesStand.{actWord}
 use Rattle.units.specs.UnitLaws.{act-stands}
 use Rattle.units.specs.TrailWords.{latestDecision, firstUnset, TrailStands}
-use Rattle.units.specs.BacktrackLaws.{DecidedTrue, backtrack-none-zero, Backtracked, backtrack-stands}
-use Rattle.units.specs.FirstUnset.{first-unset-some, first-unset-none}
 use Rattle.walk.specs.Walk.{walkFrom}
 use Rattle.walk.specs.WalkStands.{WalkAs, walk-stands}
 use Rattle.log.specs.LogHolds.{holds-index}
 use Rattle.search.specs.Machine.{Machine, logIn, Stands, RulesStand}
+use Rattle.encoding.specs.TruthLaws.{Consistent, true-word}
+use Rattle.units.specs.BacktrackLaws.{DecidedTrue, backtrack-none-zero, Backtracked, backtrack-stands}
+use Rattle.units.specs.FirstUnset.{first-unset-some, first-unset-none}
 use Rattle.search.specs.declared.Run.{Run}
 
 -- decisions stand at true
@@ -74,8 +74,8 @@ module _ (p : Problem) (budget : ℕ) (s : State) (m : Machine) (run : Run) (h :
   trail-decided = decided-true (taskOf p) (h .sound .inv .trailed)
 
   -- a literal of the table is true just where its word is, and a true literal is one of the table
-  pub true-words : TrueWords (s .table) (s .trail) (m .values)
-  true-words = true-word (s .table) (s .trail) (m .values) (h .trail .valued) trail-consistent
+  pub true-words : TrueWords (s .table) (s .trail) (m .trail .values)
+  true-words = true-word (s .table) (s .trail) (m .trail .values) (h .trail .valued) trail-consistent
 
   pub true-known : (l : Literal) → isTrue (s .trail) l ≡ true → l .atom ∈ s .table
   true-known l e =
@@ -87,12 +87,12 @@ module _ (p : Problem) (budget : ℕ) (s : State) (m : Machine) (run : Run) (h :
   room-for l i u = rw (h .set) (unset-room (taskOf p) s (h .sound .fits) l i u)
 
   -- step A
-  pub act-as : actFrom (m .values) (m .starts) (m .literals) (m .heads) (length (p .clauses)) (length (goalAtoms (p .clauses))) 0 (run .clauses)
+  pub act-as : actFrom (m .trail .values) (m .store .starts) (m .store .literals) (m .store .heads) (length (p .clauses)) (length (goalAtoms (p .clauses))) 0 (run .clauses)
       ≡ actWord (s .table) (nextAct (taskOf p) s)
   unfolding taskOf
   act-as =
       rw (h .log .clauses)
-      (act-stands (taskOf p) s (h .sound .tabled .created) (m .values) (m .starts) (m .literals) (m .heads)
+      (act-stands (taskOf p) s (h .sound .tabled .created) (m .trail .values) (m .store .starts) (m .store .literals) (m .store .heads)
       (h .sound .tabled .split)
       (h .sound .fits .written)
       trail-consistent
@@ -107,19 +107,19 @@ module _ (p : Problem) (budget : ℕ) (s : State) (m : Machine) (run : Run) (h :
       (f .entered (record { literal = l; why = forced }) (List·Memᴰ·head refl), inv-act (taskOf p) s (h .sound .inv) (force l) e .unset)
 
   -- a conflict
-  pub back-none : backtrack (s .trail) ≡ none → latestDecision (m .marks) (run .set) ≡ 0
+  pub back-none : backtrack (s .trail) ≡ none → latestDecision (m .trail .marks) (run .set) ≡ 0
   back-none e = rw (h .set) (backtrack-none-zero (h .trail) e)
 
-  pub back-some : (u : Trail) → backtrack (s .trail) ≡ some u → (at : ℕ) → latestDecision (m .marks) (run .set) ≡ suc at
-      → Backtracked (s .table) (s .trail) u (m .values) (m .trail) (m .marks) (suc at) (getD (m .trail) at 0)
+  pub back-some : (u : Trail) → backtrack (s .trail) ≡ some u → (at : ℕ) → latestDecision (m .trail .marks) (run .set) ≡ suc at
+      → Backtracked (s .table) (s .trail) u (m .trail .values) (m .trail .words) (m .trail .marks) (suc at) (getD (m .trail .words) at 0)
   back-some u e at q =
       let place : suc at - 1 ≡ at = omega arith in
       backtrack-stands (h .room) (h .trail) (h .sound .fits .entered) (h .sound .fits .different) trail-decided e (sym q ∙ rw (h .set)) (rw place)
 
   -- step B
-  pub walk-as : (rules : List ℕ) → RulesStand p rules → WalkAs p s (walkFrom (m .values) (m .index) rules (p .constants) 0 (length (p .rules)))
+  pub walk-as : (rules : List ℕ) → RulesStand p rules → WalkAs p s (walkFrom (m .trail .values) (m .table .index) rules (p .constants) 0 (length (p .rules)))
   walk-as rules r =
-      walk-stands p (r .limits) rules (r .words) s (m .values) (m .index)
+      walk-stands p (r .limits) rules (r .words) s (m .trail .values) (m .table .index)
       (holds-index p (r .limits) (s .table) (s .log) (logIn m run) (h .log))
       true-words
       true-known
@@ -135,20 +135,20 @@ module _ (p : Problem) (budget : ℕ) (s : State) (m : Machine) (run : Run) (h :
       let f = goal-first (taskOf p) s a e in
       (goal-in a (in-along (f .split) (at-split (f .before) (f .after))), f .pass)
 
-  goal-trail : TrailStands (goalAtoms (p .clauses) ++ h .sound .tabled .created) (s .trail) (m .values) (m .trail) (m .marks)
+  goal-trail : TrailStands (goalAtoms (p .clauses) ++ h .sound .tabled .created) (s .trail) (m .trail .values) (m .trail .words) (m .trail .marks)
   unfolding taskOf
-  goal-trail = subst (λ (t : List Atom). TrailStands t (s .trail) (m .values) (m .trail) (m .marks)) (h .sound .tabled .split) (h .trail)
+  goal-trail = subst (λ (t : List Atom). TrailStands t (s .trail) (m .trail .values) (m .trail .words) (m .trail .marks)) (h .sound .tabled .split) (h .trail)
 
   goal-different : Different (goalAtoms (p .clauses) ++ h .sound .tabled .created)
   unfolding taskOf
   goal-different = subst Different (h .sound .tabled .split) (h .sound .tabled .different)
 
-  pub goal-none : nextGoal (taskOf p) s ≡ none → firstUnset (m .values) 0 (length (goalAtoms (p .clauses))) ≡ length (goalAtoms (p .clauses))
+  pub goal-none : nextGoal (taskOf p) s ≡ none → firstUnset (m .trail .values) 0 (length (goalAtoms (p .clauses))) ≡ length (goalAtoms (p .clauses))
   unfolding taskOf nextGoal
   goal-none e = first-unset-none (goalAtoms (p .clauses)) (h .sound .tabled .created) goal-different goal-trail e
 
   pub goal-some : (a : Atom) → nextGoal (taskOf p) s ≡ some a
-      → (firstUnset (m .values) 0 (length (goalAtoms (p .clauses))) ≡ position (s .table) a) × (position (s .table) a < length (goalAtoms (p .clauses)))
+      → (firstUnset (m .trail .values) 0 (length (goalAtoms (p .clauses))) ≡ position (s .table) a) × (position (s .table) a < length (goalAtoms (p .clauses)))
   unfolding taskOf nextGoal
   goal-some a e =
       rw (h .sound .tabled .split) (first-unset-some (goalAtoms (p .clauses)) (h .sound .tabled .created) goal-different goal-trail a e)

@@ -1,6 +1,6 @@
 -- What the calls of a step ask for, wherever the machine stands for a state of a search. Assumes nothing.
 use Prim.Native.Nat.{ℕ, zero, suc, _+_, _≤_, _<_, _^_}
-use mathlib.Core.Path.{_≡_, refl, sym, _∙_}
+use mathlib.Core.Path.{_≡_, refl, sym, ap, _∙_, subst}
 use mathlib.Core.Bool.{true}
 use mathlib.Core.Option.{Option, none, some}
 use mathlib.Core.List.{List}
@@ -15,25 +15,27 @@ use Rattle.definitions.specs.Search.{State, Act, conflict, force, nextGoal, bac
 use Rattle.theory.specs.Tests.{by-option, apart, not-true, and-left}
 use Rattle.theory.specs.ListLaws.{all-each}
 use Rattle.theory.specs.Ends.{trail-length}
-use Rattle.encoding.specs.Encoding.{literalWord}
+use Rattle.encoding.specs.Encoding.{literalWord, sizesOf}
 use Rattle.encoding.specs.CodeLaws.{index-within}
-use Rattle.units.specs.Units.{actFrom, ClausesFit}
+use Rattle.encoding.specs.HoldLaws.{its-clauses, its-goals}
+use Rattle.encoding.specs.declared.Sizes.{Sizes}
+use Rattle.units.specs.Units.{ClausesFit}
 use Rattle.units.specs.ClausesStand.{actWord}
 use Rattle.units.specs.TrailWords.{latestDecision, firstUnset}
 use Rattle.units.specs.LiteralWords.{word-small}
 use Rattle.units.specs.TrailLaws.{words-small}
-use Rattle.rules.specs.Rules.{codeUnder, trueUnder, headSlots, ruleVariables, RulesFit, IndexFits}
-use Rattle.rules.specs.Fillings.{fillingOf, fillingCount}
 use Rattle.walk.specs.Walk.{firesUnder, firesAt, firstFrom, walkFrom}
-use Rattle.rules.specs.RuleStands.{rules-fit}
 use Rattle.log.specs.Logging.{LogFits}
-use Rattle.walk.specs.WalkLaws.{found-below, firstFrom-passes}
-use Rattle.rules.specs.RuleLaws.{fewer-fit}
-use Rattle.search.specs.Machine.{Machine, logIn, Stands, Running}
+use Rattle.search.specs.Machine.{Machine, logIn, actOf, walkOf, Stands, Running}
 use Rattle.search.specs.StandsLaws.{room-for, act-as, unit-unset, back-none, back-some, goal-unset, goal-none, goal-some}
 use Rattle.search.specs.declared.Run.{Run}
 use Rattle.units.specs.declared.Act.the-variants.{Force, Nothing}
 use Rattle.walk.specs.declared.Found.the-variants.{Instance}
+use Rattle.walk.specs.WalkLaws.{found-below, firstFrom-passes}
+use Rattle.rules.specs.Rules.{codeUnder, trueUnder, headSlots, ruleVariables, RulesFit, IndexFits}
+use Rattle.rules.specs.Fillings.{fillingOf, fillingCount}
+use Rattle.rules.specs.RuleStands.{rules-fit}
+use Rattle.rules.specs.RuleLaws.{fewer-fit}
 
 -- a word is forced where a literal is
 force-of : (table : List Atom) (o : Option Act) (w : ℕ) → actWord table o ≡ Force w → (l : Literal) × (o ≡ some (force l)) × (w ≡ literalWord table l)
@@ -64,7 +66,7 @@ module _ (values index rules : List ℕ) (n : ℕ) where
       let other = eqb-false place 0 (not-true (eqb place 0) (and-left _ _ here)) in
       omega (arith, other)
 
-module _ (budget : ℕ) (rules : List ℕ) (m : Machine) (run : Run) (constants count given goals : ℕ) (running : Running budget rules m run constants count given goals) where
+module _ (budget : ℕ) (rules : List ℕ) (sizes : Sizes) (m : Machine) (run : Run) (running : Running budget rules sizes m run) where
   abbrev p : Problem
   p = running .problem
 
@@ -75,13 +77,14 @@ module _ (budget : ℕ) (rules : List ℕ) (m : Machine) (run : Run) (constants 
   h = running .stands
 
   -- step A
-  pub units-fit : (goals ≤ 256) × ClausesFit (m .starts) (m .literals) (m .heads) given (run .clauses)
-  units-fit = (omega (arith, running .itsGoals, running .rulesStand .limits .goals), rw (running .itsClauses) (h .log .fit))
+  pub units-fit : (sizes .atoms ≤ 256) × ClausesFit (m .store .starts) (m .store .literals) (m .store .heads) (sizes .clauses) (run .clauses)
+  units-fit = (omega (arith, its-goals p (running .counts), running .rulesStand .limits .goals), rw (its-clauses p (running .counts)) (h .log .fit))
 
   -- a unit
-  pub unit-fits : (w : ℕ) → actFrom (m .values) (m .starts) (m .literals) (m .heads) given goals 0 (run .clauses) ≡ Force w → (run .set < 256) × (w < 512)
+  pub unit-fits : (w : ℕ) → actOf sizes m run ≡ Force w → (run .set < 256) × (w < 512)
+  unfolding sizesOf
   unit-fits w e =
-      let acts = sym (act-as p budget s m run h) ∙ (rw (running .itsClauses, running .itsGoals) at e) in
+      let acts = sym (ap (λ (x : Sizes). actOf x m run) (running .counts) ∙ act-as p budget s m run h) ∙ e in
       let (l, q, its) = force-of (s .table) _ w acts in
       let (inside, unset) = unit-unset p budget s m run h l q in
       (room-for p budget s m run h l inside unset, rw its (word-small (s .table) l (h .room .table-size) inside))
@@ -90,13 +93,13 @@ module _ (budget : ℕ) (rules : List ℕ) (m : Machine) (run : Run) (constants 
   pub trail-fits : run .set ≤ 256
   trail-fits = omega (arith, h .set, trail-length (h .sound .fits))
 
-  pub trail-whole : length (m .trail) ≡ 256
+  pub trail-whole : length (m .trail .words) ≡ 256
   trail-whole = h .room .trail-size
 
-  pub words-fit : (i : ℕ) → i < run .set → getD (m .trail) i 0 < 512
+  pub words-fit : (i : ℕ) → i < run .set → getD (m .trail .words) i 0 < 512
   words-fit i b = words-small (h .room .table-size) (h .trail) (h .sound .fits .entered) i (omega (arith, h .set))
 
-  pub flip-fits : (at : ℕ) → latestDecision (m .marks) (run .set) ≡ suc at → (at < run .set) × (getD (m .trail) at 0 + 1 < 512)
+  pub flip-fits : (at : ℕ) → latestDecision (m .trail .marks) (run .set) ≡ suc at → (at < run .set) × (getD (m .trail .words) at 0 + 1 < 512)
   flip-fits at e =
       by-option (backtrack (s .trail))
       (λ q. absurd (omega (arith, e, back-none p budget s m run h q)))
@@ -106,36 +109,37 @@ module _ (budget : ℕ) (rules : List ℕ) (m : Machine) (run : Run) (constants 
   conflicts-fit = omega (arith, h .conflicts, h .counted .balance, h .counted .within, running .small)
 
   -- step B
-  index-small : IndexFits (m .index) 256
+  index-small : IndexFits (m .table .index) 256
   index-small code = rw (h .log .index) (omega (arith, index-within (s .table) code, h .room .table-size))
 
-  pub rules-and-index : RulesFit rules constants count × IndexFits (m .index) 256
+  pub rules-and-index : RulesFit rules (sizes .constants) (sizes .rules) × IndexFits (m .table .index) 256
+  unfolding sizesOf
   rules-and-index = (
-    rw (running .itsConstants, running .itsRules) (rules-fit p (running .rulesStand .limits) rules (running .rulesStand .words)),
+    subst (λ (x : Sizes). RulesFit rules (x .constants) (x .rules)) (sym (running .counts)) (rules-fit p (running .rulesStand .limits) rules (running .rulesStand .words)),
     index-small,
   )
 
-  pub log-fits : (r f : ℕ) → actFrom (m .values) (m .starts) (m .literals) (m .heads) given goals 0 (run .clauses) ≡ Nothing → walkFrom (m .values) (m .index) rules constants 0 count ≡ Instance r f
-      → RulesFit rules constants (r + 1) × (f < fillingCount rules constants r) × LogFits rules (fillingOf constants (ruleVariables rules r) f) r given (logIn m run)
+  pub log-fits : (r f : ℕ) → actOf sizes m run ≡ Nothing → walkOf rules sizes m ≡ Instance r f
+      → RulesFit rules (sizes .constants) (r + 1) × (f < fillingCount rules (sizes .constants) r) × LogFits rules (fillingOf (sizes .constants) (ruleVariables rules r) f) r (sizes .clauses) (logIn m run)
   log-fits r f e g = (
-    fewer-fit rules constants count (r + 1) (rules-and-index .0) (let b = found-below (m .values) (m .index) rules constants 0 count r f g .0 in omega arith),
-    found-below (m .values) (m .index) rules constants 0 count r f g .1,
+    fewer-fit rules (sizes .constants) (sizes .rules) (r + 1) (rules-and-index .0) (let b = found-below (m .trail .values) (m .table .index) rules (sizes .constants) 0 (sizes .rules) r f g .0 in omega arith),
+    found-below (m .trail .values) (m .table .index) rules (sizes .constants) 0 (sizes .rules) r f g .1,
     record {
-      goals = omega (arith, running .itsClauses, running .rulesStand .limits .clauses);
-      behind = omega (arith, running .itsClauses, h .log .clauses);
-      few = omega (arith, running .itsClauses, h .log .clauses, h .log .logFits);
+      goals = omega (arith, its-clauses p (running .counts), running .rulesStand .limits .clauses);
+      behind = omega (arith, its-clauses p (running .counts), h .log .clauses);
+      few = omega (arith, its-clauses p (running .counts), h .log .clauses, h .log .logFits);
       atoms = omega (arith, h .log .atoms, h .log .tableFits);
       room = omega (arith, h .log .used, h .log .logFits, running .rulesStand .limits .literals);
       index = index-small;
-      entered = fires-entered (m .values) (m .index) rules constants r f (walk-fires (m .values) (m .index) rules constants 0 count r f g);
+      entered = fires-entered (m .trail .values) (m .table .index) rules (sizes .constants) r f (walk-fires (m .trail .values) (m .table .index) rules (sizes .constants) 0 (sizes .rules) r f g);
     },
   )
 
   -- step C
-  pub goal-fits : (firstUnset (m .values) 0 goals ≡ goals → ⊥) → (firstUnset (m .values) 0 goals < goals) × (run .set < 256)
+  pub goal-fits : (firstUnset (m .trail .values) 0 (sizes .atoms) ≡ sizes .atoms → ⊥) → (firstUnset (m .trail .values) 0 (sizes .atoms) < sizes .atoms) × (run .set < 256)
   goal-fits n =
       by-option (nextGoal (taskOf p) s)
-      (λ e. absurd (n (rw (running .itsGoals) (goal-none p budget s m run h e))))
+      (λ e. absurd (n (rw (its-goals p (running .counts)) (goal-none p budget s m run h e))))
       (λ a e. let (first, below) = goal-some p budget s m run h a e in
       let (inside, unset) = goal-unset p budget s m run h a e in
-      (rw (running .itsGoals, first) below, room-for p budget s m run h (plain a) inside unset))
+      (rw (its-goals p (running .counts), first) below, room-for p budget s m run h (plain a) inside unset))
