@@ -42,11 +42,12 @@ pub const LITERALS: usize = 2568;
 
 pub const CODES: usize = 524288;
 
-// A rule's words: both counts, and five slots. A term's word: a constant's stand behind those of the variables.
+// A rule's words: both counts, and five slots of four.
 pub const RULE_SIZE: usize = 22;
 
 pub const RULE_SLOTS: usize = 20;
 
+// The word of constant 1 as a term; those below are the variables, and 0 for no term.
 pub const FIRST_CONSTANT: usize = 7;
 
 // How much of each array is in use.

@@ -3,3 +3,4 @@ pub mod Terms
 pub mod Literals
 pub mod CoverTurns
 pub mod Entries
+pub mod RulePlaces

@@ -4,3 +4,4 @@ pub mod Entering
 pub mod EnteringLaws
 pub mod ClauseSlotLaws
 pub mod HeldClauseLaws
+pub mod ReadClauseLaws

@@ -1,6 +1,6 @@
-// The literals of a line: into slots, and a clause's into the arrays.
+// The literals of a line: into slots, and from slots into the arrays.
 pub mod slots; // slots.rt: questions 10 and 12, over slots
-pub mod enter; // enter.rt: a clause into the arrays
+pub mod enter; // enter.rt: a clause or a rule into the arrays
 
 use encoding::CLAUSE_LITERALS;
 

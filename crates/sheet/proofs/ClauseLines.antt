@@ -25,7 +25,7 @@ use Rattle.sheet.specs.declared.LineRead.{LineRead}
 use Rattle.sheet.specs.declared.LineRead.the-variants.{No, Yes}
 use Rattle.sheet.proofs.CountColumns.{count-missing, count-out, count-in}
 use Rattle.sheet.proofs.SlotWalks.{SlotsWalked, slots-refused, slots-walked, left-over, none-left, words-front}
-use Rattle.sheet.proofs.ClauseSlots.{slots-limits, enter-front, patterns-kept}
+use Rattle.literals.specs.ReadClauseLaws.{slots-limits, enter-front, patterns-kept}
 
 -- a line that is refused leaves the arrays free
 pub clause-refused : {m : Asked Clause} {q : ℕ} (s : Sizes) (a b c d e f g h : List ℕ) → m ≡ no q → ClauseRead m (No q) s a b c d e f g h

@@ -1,5 +1,4 @@
 pub mod ClauseLines
-pub mod ClauseSlots
 pub mod CountColumns
 pub mod CountLines
 pub mod LineKinds
@@ -7,6 +6,5 @@ pub mod RowLoops
 pub mod RowQuestions
 pub mod RowTests
 pub mod RuleLines
-pub mod RulePlaces
 pub mod Sheets
 pub mod SlotWalks

@@ -5,7 +5,7 @@ mod lines; // lines.rt: a line of each kind
 use definitions::Refusal;
 use encoding::Sizes;
 ghost use mathlib.Core.Path.{_≡_};
-ghost use Prim.Native.Nat.{_+_, _-_, _/_, _≤_, _<_};
+ghost use Prim.Native.Nat.{_≤_};
 ghost use lib.ListN.{drop};
 ghost use Rattle.definitions.specs.Questions.{read};
 ghost use Rattle.encoding.specs.Signs.{numbers};
@@ -49,7 +49,7 @@ fn line_of_kind(
     table: &mut [u32; ATOMS],
     index: &mut [u16; CODES],
 ) -> LineRead
-    requires { ⌜ (1 ≤ n) × (n ≤ 34) × Ready s (now arities) (now index) ⌝ }
+    requires { ⌜ (n ≤ 34) × Ready s (now arities) (now index) ⌝ }
     ensures { λ r. ⌜ LineHeld kind (drop 1 (numbers n (now (row .entry)))) r s
         (arrays (now (arities .entry)) (now (rules .entry)) (now (starts .entry)) (now (literals .entry)) (now (table .entry)) (now (index .entry)))
         (arrays (now (arities .exit)) (now (rules .exit)) (now (starts .exit)) (now (literals .exit)) (now (table .exit)) (now (index .exit))) ⌝ }

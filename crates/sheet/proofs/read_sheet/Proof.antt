@@ -69,7 +69,7 @@ line-of-kind-requires : tie.Need-line-of-kind-requires Inv-loop μ-loop
 line-of-kind-requires c κs =
     let line = c .before .before .before .before .before .before .before .before .before .before .before in
     let count = asks-count (asks line) (c .before .before .before .before .before .before .before .before .before .before .if3 .left) in
-    (count .0, count .1, reached-ready (line .before .before .before .before .loop .inv))
+    (count .1, reached-ready (line .before .before .before .before .loop .inv))
 
 enum-known-q : tie.Need-enum-known-q Inv-loop μ-loop
 enum-known-q c = search needs

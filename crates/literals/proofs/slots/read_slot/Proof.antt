@@ -58,7 +58,7 @@ read-terms-requires : tie.Need-read-terms-requires
 read-terms-requires c κs =
     let wide8 = c .before in
     let start = wide8 .before .before .before .before .before .before .before .before .before in
-    (start .pre .0, omega arith, omega (arith, wide8 .wide8 .ensures .0, start .pre .1 (wide8 .before .before .before .before .wide .result / 2 - 1)), omega arith)
+    (omega arith, omega (arith, wide8 .wide8 .ensures .0, start .pre .0 (wide8 .before .before .before .before .wide .result / 2 - 1)), omega arith)
 
 add-result : tie.Need-add-result
 add-result c = search needs

@@ -16,7 +16,7 @@ fill-slots-requires : tie.Need-fill-slots-requires
 fill-slots-requires c κs =
     let start = c .before .before .before .before .before in
     let a = start .args in
-    (start .pre .0, start .pre .2, omega (arith, length-take-le (a .n) (a .row .now) (omega arith)), start .pre .5)
+    (start .pre .1, omega (arith, length-take-le (a .n) (a .row .now) (omega arith)), start .pre .4)
 
 returns : tie.Need-returns
 unfolding numbers

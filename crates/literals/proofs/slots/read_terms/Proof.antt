@@ -95,7 +95,7 @@ loop-again c =
     let test = c .before .before .before in
     let at-loop = test .before .before in (
       search needs,
-      λ before e. terms-turn _ _ _ _ _ _ before _ _ (at-loop .loop .inv .1 before e) _ (test .before .loop-test .taken) (test .if1 .left) (c .before .term-word .ensures) (c .if2 .left) (at-loop .before .before .pre .2),
+      λ before e. terms-turn _ _ _ _ _ _ before _ _ (at-loop .loop .inv .1 before e) _ (test .before .loop-test .taken) (test .if1 .left) (c .before .term-word .ensures) (c .if2 .left) (at-loop .before .before .pre .1),
     )
 
 returns-3 : tie.Need-returns-3 Inv-loop μ-loop

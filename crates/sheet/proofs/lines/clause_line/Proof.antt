@@ -51,7 +51,7 @@ counted c =
       fits = omega arith;
       two = omega arith;
       read = count-in (c .before .before .before);
-      room = omega (arith, start c .pre .2 .clauses);
+      room = omega (arith, start c .pre .1 .clauses);
       word = c .wide .ensures .0;
     }
 
@@ -60,15 +60,15 @@ abbrev declared : tie.After-wide → List ℕ
 declared c = take (start c .args .s .symbols) (start c .args .arities .now)
 
 declared-few : (c : tie.After-wide) → length (declared c) ≤ 16
-declared-few c = omega (arith, start c .pre .2 .symbols, length-take (start c .args .s .symbols) (start c .args .arities .now))
+declared-few c = omega (arith, start c .pre .1 .symbols, length-take (start c .args .s .symbols) (start c .args .arities .now))
 
 slots-room : (c : tie.After-wide) → 32 ≤ length (start c .args .slots .now)
 slots-room c = omega arith
 
 read-slots-requires : tie.Need-read-slots-requires
 read-slots-requires c κs =
-    let ready = start (c .before) .pre .2 in
-    (ready .constants, ready .symbols, ready .arity, omega arith, omega arith, clause-few (counted (c .before)))
+    let ready = start (c .before) .pre .1 in
+    (ready .symbols, ready .arity, omega arith, omega arith, clause-few (counted (c .before)))
 
 returns-4 : tie.Need-returns-4
 returns-4 c =
@@ -86,7 +86,7 @@ enter-clause-requires c κs =
     let tested = c .before .before .before .before in
     let read = tested .before .before in
     let walk = read .before .before in
-    let ready = start walk .pre .2 in
+    let ready = start walk .pre .1 in
     let few = clause-few (counted walk) in
     let slots = clause-slots _ _ _ (declared walk) _ _ _ _ (counted walk) (read .read-slots .ensures) (tested .before .if4 .left) (slots-room walk) (ready .constants) (declared-few walk) in
     (few, ready .atoms, omega (arith, ready .literals, ready .clauses), slots, ready .index)
