@@ -1,2 +1,3 @@
 pub mod SlotTurns
+pub mod VariableTurns
 pub mod FillingTurns

@@ -1,5 +1,9 @@
 pub mod Rules
 pub mod RuleLaws
+pub mod Firing
+pub mod FiringLaws
+pub mod Variables
+pub mod VariableLaws
 pub mod Fillings
 pub mod FillingLaws
 pub mod Substitutions

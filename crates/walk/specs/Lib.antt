@@ -1,8 +1,6 @@
 pub mod Walk
 pub mod WalkLaws
-pub mod Firing
 pub mod Candidates
-pub mod RuleBits
 pub mod Nested
 pub mod Odometer
 pub mod MaskedWalk
