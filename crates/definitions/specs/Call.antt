@@ -1,8 +1,9 @@
--- Document 01: the call on any bytes, budget and room: question 1, what is handed back, the room afterwards, and what a call
--- comes to. Assumes nothing.
+-- Document 01: the call on any bytes, budget and room: the questions about what is lent, what is handed back, the room afterwards, and
+-- what a call comes to. Assumes nothing.
 use Prim.Native.Nat.{ℕ, _≤_, _<_}
 use mathlib.Core.Path.{_≡_}
 use mathlib.Core.Bool.{true, false}
+use mathlib.Core.Option.{Option, none, some}
 use mathlib.Core.List.{List, [], _∷_, _++_}
 use lib.Dec.{leb}
 use lib.ListN.{length, drop}
@@ -31,9 +32,25 @@ unfoldable pub answered : Reading → ℕ → Result
 answered (refused q n) budget = refusal q n
 answered (accepted p) budget = searched (search p budget)
 
+-- a question about what is lent: its number, how much is lent, and how much it asks for at least
+pub record Lending : Type 0 where
+  pub question : ℕ
+  pub lent : ℕ
+  pub asked : ℕ
+
+-- the questions about a room of so many bytes, in their order
 -- 1: the lent room has at least 45,056 bytes
+unfoldable pub lendings : ℕ → List Lending
+lendings room = record { question = 1; lent = room; asked = roomBytes } ∷ []
+
+-- the first of them that is answered no
+unfoldable pub firstShort : List Lending → Option ℕ
+firstShort [] = none
+firstShort (l ∷ ls) = elim (leb (l .asked) (l .lent)) [ true ↦ firstShort ls | false ↦ some (l .question) ]
+
+-- it ends the call with its number and line 0; otherwise the sheet is read
 unfoldable pub result : List ℕ → ℕ → List ℕ → Result
-result sheet budget room = elim (leb roomBytes (length room)) [ true ↦ answered (read sheet) budget | false ↦ refusal 1 0 ]
+result sheet budget room = elim (firstShort (lendings (length room))) [ none ↦ answered (read sheet) budget | some q ↦ refusal q 0 ]
 
 -- what the call hands back
 unfoldable pub answerOf : Result → Answer
@@ -113,5 +130,5 @@ module _ (sheet : List ℕ) (budget : ℕ) (room : List ℕ) where
 
 -- names every definition of this module, for a theorem that computes with all of them
 unfoldable pub Call·all : Unit {0}
-unfolding searched answered result answerOf listingOf written call listedPart roomAfter printedOf printed values
+unfolding searched answered lendings firstShort result answerOf listingOf written call listedPart roomAfter printedOf printed values
 Call·all = tt

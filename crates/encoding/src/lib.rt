@@ -5,7 +5,7 @@ pub mod values; // values.rt: the values of literals
 ghost use mathlib.Core.Path.{_≡_};
 ghost use Prim.Native.Nat.{_<_};
 
-// The limits of a sheet and of a search.
+// The limits of a sheet, and of a search: its rules, atoms and logged clauses.
 pub const CONSTANTS: usize = 32;
 
 pub const SYMBOLS: usize = 16;
@@ -28,13 +28,15 @@ pub const GOALS: usize = 64;
 
 pub const COLUMNS: usize = 34; // of a line
 
+pub const SEARCH_RULES: usize = 32;
+
 pub const ATOMS: usize = 256;
 
 pub const LOGGED: usize = 512;
 
 // The lengths of the arrays: 22 words a rule; where each of 65 goal clauses and all logged ones starts, and where the last ends; their
 // literals, at most 520 and 4 a logged one; a place for each code of an atom, a symbol and three constants.
-pub const RULE_WORDS: usize = 704;
+pub const RULE_WORDS: usize = 22 * SEARCH_RULES;
 
 pub const STARTS: usize = 578;
 

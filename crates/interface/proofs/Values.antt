@@ -30,8 +30,8 @@ module _ (sheet : List ℕ) (budget : ℕ) (room places : List ℕ) where
   unfolding handed roomLeft
   too-few h = rw (lt-leb 5 (length places) h, handed, roomLeft) (refl, refl, refl)
 
-  pub enough : 5 ≤ length places → {answer : Answer} → answer ≡ call sheet budget room → {n : ℕ} {placesAfter roomAfter′ : List ℕ}
+  pub five-or-more : 5 ≤ length places → {answer : Answer} → answer ≡ call sheet budget room → {n : ℕ} {placesAfter roomAfter′ : List ℕ}
       → n ≡ length (values answer) → placesAfter ≡ sets places 0 (values answer) → roomAfter′ ≡ roomAfter sheet budget room
       → (n ≡ length (handed sheet budget room places)) × (placesAfter ≡ sets places 0 (handed sheet budget room places)) × (roomAfter′ ≡ roomLeft sheet budget room places)
   unfolding handed roomLeft
-  enough h c d e f = rw (le-leb 5 (length places) h, handed, roomLeft, ← c) (d, e, f)
+  five-or-more h c d e f = rw (le-leb 5 (length places) h, handed, roomLeft, ← c) (d, e, f)

@@ -7,6 +7,9 @@ ghost use Rattle.definitions.specs.Call.{listedPart, roomAfter, values as value
 ghost use Rattle.interface.specs.Exported.{handed, roomLeft};
 use definitions::Answer;
 
+// The most values that the first call puts into the places.
+pub const PLACES: usize = 5;
+
 // The values of an answer at the front of the places: how many there are.
 fn put_values(places: &mut [u64], answer: Answer) -> usize
     requires { ⌜ 5 ≤ length (now places) ⌝ }
@@ -44,7 +47,7 @@ pub extern "C" fn thunyaworm_solve(
         × (now (places .exit) ≡ sets (now (places .entry)) 0 (handed (now (sheet .entry)) budget (now (room .entry)) (now (places .entry))))
         × (now (room .exit) ≡ roomLeft (now (sheet .entry)) budget (now (room .entry)) (now (places .entry))) ⌝ }
 {
-    if places.len() < 5 {
+    if places.len() < PLACES {
         return 0;
     }
     let answer = solver::solve(sheet, budget, room);

@@ -1,6 +1,5 @@
 pub mod Puts
 pub mod Lines
-pub mod Finished
 pub mod JoinedLaws
 pub mod CodeParts
 pub mod ListingStands

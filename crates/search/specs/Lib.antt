@@ -12,3 +12,4 @@ pub mod MaskStands
 pub mod Upkeep
 pub mod Stepping
 pub mod Loading
+pub mod Finished

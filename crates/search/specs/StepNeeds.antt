@@ -24,7 +24,8 @@ use Rattle.units.specs.ClausesStand.{actWord}
 use Rattle.units.specs.TrailWords.{latestDecision, firstUnset}
 use Rattle.units.specs.LiteralWords.{word-small}
 use Rattle.units.specs.TrailLaws.{words-small}
-use Rattle.walk.specs.Walk.{firesUnder, firesAt, firstFrom, walkFrom}
+use Rattle.walk.specs.Walk.{firesAt, firstFrom, walkFrom}
+use Rattle.rules.specs.Firing.{firesUnder}
 use Rattle.log.specs.Logging.{LogFits}
 use Rattle.search.specs.Machine.{Machine, logIn, actOf, walkOf, Stands, Running}
 use Rattle.search.specs.StandsLaws.{room-for, act-as, unit-unset, back-none, back-some, goal-unset, goal-none, goal-some}

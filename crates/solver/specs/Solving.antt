@@ -1,13 +1,10 @@
--- What a call hands back and leaves in the room, by what it comes to; and the arrays between reading and searching. Assumes nothing.
-use Prim.Native.Nat.{ℕ}
+-- What a call hands back and leaves in the room, by what it comes to; and the number of the first question that fails. Assumes nothing.
+use Prim.Native.Nat.{ℕ, _<_}
 use mathlib.Core.Path.{_≡_}
+use mathlib.Core.Option.{Option, none, some}
 use mathlib.Core.List.{List}
-use lib.ListN.{length, replicate}
-use Rattle.definitions.specs.Words.{Problem}
-use Rattle.definitions.specs.Questions.{accepted, read}
+use lib.ListN.{length}
 use Rattle.definitions.specs.Call.{Result, answerOf, listingOf, written}
-use Rattle.encoding.specs.Encoding.{Arrays, arrays, emptyIndex, sizesOf, hold}
-use Rattle.encoding.specs.declared.Sizes.{Sizes}
 use Rattle.solver.specs.declared.Solved.{Solved}
 
 -- the answer, the listing's length, and the room with the listing at its front
@@ -16,12 +13,7 @@ pub record SolvedAs (result : Result) (room : List ℕ) (r : Solved) (after : Li
   pub size : r .length ≡ length (listingOf result)
   pub stored : after ≡ written (listingOf result) room
 
--- the arrays before a sheet is read
-unfoldable pub emptyArrays : Arrays
-emptyArrays = arrays (replicate 16 0) (replicate 704 0) (replicate 578 0) (replicate 2568 0) (replicate 256 0) emptyIndex
-
--- the arrays hold the problem of an accepted sheet, as the reader leaves them
-pub record Held (sheet : List ℕ) (p : Problem) (sizes : Sizes) (after : Arrays) : Type 0 where
-  pub reads : read sheet ≡ accepted p
-  pub counts : sizes ≡ sizesOf p
-  pub holds : after ≡ hold p emptyArrays
+-- a question's number, and 0 for none
+abbrev pub ShortIs : Option ℕ → ℕ → Type 0
+ShortIs none r = r ≡ 0
+ShortIs (some q) r = (r ≡ q) × (0 < q)

@@ -1,5 +1,6 @@
 // The solver's calls: sheet bytes, a budget and a lent room. Nothing is required of a caller.
 // The promises about them stand in specs/Promises.antt.
+mod lent; // lent.rt: the questions about what is lent
 mod answering; // answering.rt: reading, searching and listing
 
 ghost use mathlib.Core.Path.{_≡_};
@@ -12,6 +13,9 @@ use definitions::Refusal;
 // The room that a call asks for.
 pub const ROOM: usize = 45056;
 
+// A buffer for a sheet: with one byte more than a sheet may have, a longer one shows.
+pub const SHEET_BUFFER: usize = sheet::SHEET_BYTES + 1;
+
 // The answer, and how many bytes at the room's front hold the listing.
 pub struct Solved {
     pub answer: Answer,
@@ -22,9 +26,10 @@ pub struct Solved {
 fn solve_both(sheet: &[u8], budget: u32, room: &mut [u8]) -> Solved
     ensures { λ r. ⌜ SolvedAs (result (now (sheet .entry)) budget (now (room .entry))) (now (room .entry)) r (now (room .exit)) ⌝ }
 {
-    if room.len() < ROOM {
+    let number = lent::first_short(room.len());
+    if number != 0 {
         return Solved {
-            answer: Answer::Refused(Refusal { number: 1, line: 0 }),
+            answer: Answer::Refused(Refusal { number, line: 0 }),
             length: 0,
         };
     }

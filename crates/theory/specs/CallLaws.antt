@@ -1,6 +1,7 @@
 -- What a call comes to, by its room and its sheet, and that its answer is the one that the search comes to. Assumes nothing.
 use Prim.Native.Nat.{ℕ, _≤_, _<_}
 use mathlib.Core.Path.{_≡_, refl, sym, ap, _∙_, subst}
+use mathlib.Core.Option.{none, some}
 use mathlib.Core.List.{List, []}
 use lib.Dec.{leb}
 use lib.ListN.{length, take, drop}
@@ -10,22 +11,31 @@ use Rattle.definitions.specs.Sheet.{number, plus, decimal}
 use Rattle.definitions.specs.Questions.{Reading, refused, accepted, read}
 use Rattle.definitions.specs.Search.{State, done, search}
 use Rattle.definitions.specs.Listing.{answerNumber}
-use Rattle.definitions.specs.Call.{Result, refusal, ended, searched, answered, result, answerOf, listingOf, written, call, listedPart, roomAfter, RefusedWith, AnsweredWith, Comes, tooSmall, improper, proper, FromSearch}
+use Rattle.definitions.specs.Call.{Result, refusal, ended, searched, answered, lendings, firstShort, result, answerOf, listingOf, written, call, listedPart, roomAfter, RefusedWith, AnsweredWith, Comes, tooSmall, improper, proper, FromSearch}
 use Rattle.definitions.specs.Sheets.{Answers, handsBack, lists}
 use Rattle.definitions.specs.declared.Verdict.{Verdict}
 use Rattle.theory.specs.Tests.{by-test, apart}
 use Rattle.theory.specs.ListingLaws.{listed-answer}
 use Rattle.theory.specs.Theorems.{search-comes-to-an-answer}
 
+-- the questions about what is lent
+pub short-room : (room : ℕ) → room < 45056 → firstShort (lendings room) ≡ some 1
+unfolding lendings firstShort
+short-room room h = rw (lt-leb 45056 room h, firstShort)
+
+pub enough-room : (room : ℕ) → 45056 ≤ room → firstShort (lendings room) ≡ none
+unfolding lendings firstShort
+enough-room room h = rw (le-leb 45056 room h, firstShort)
+
 module _ (sheet : List ℕ) (budget : ℕ) (room : List ℕ) where
   -- question 1
   pub small-room : length room < 45056 → result sheet budget room ≡ refusal 1 0
   unfolding result
-  small-room h = rw (lt-leb 45056 (length room) h, result)
+  small-room h = rw (short-room (length room) h, result)
 
   pub large-room : 45056 ≤ length room → result sheet budget room ≡ answered (read sheet) budget
   unfolding result
-  large-room h = rw (le-leb 45056 (length room) h, result)
+  large-room h = rw (enough-room (length room) h, result)
 
   -- ── what it comes to ──
 

@@ -2,9 +2,9 @@
 -- `CallLaws`; demand 3 in `Larger`, for problems, and in `Demand3`, for calls. Assumes nothing.
 use Prim.Native.Nat.{ℕ, suc, _^_, _≤_, _<_}
 use mathlib.Core.Path.{_≡_, refl}
+use mathlib.Core.Option.{Option, none, some}
 use mathlib.Core.List.{List}
 use native.Mathlib.Omega.{arith}
-use lib.Dec.{leb}
 use lib.ListN.{length}
 use Rattle.definitions.specs.Lists.{_∈_}
 use Rattle.definitions.specs.Words.{Problem, goalAtoms}
@@ -14,10 +14,10 @@ use Rattle.definitions.specs.Questions.{Reading, refused, accepted, read}
 use Rattle.definitions.specs.Search.{State, Outcome, done, search}
 use Rattle.definitions.specs.Verdicts.{FirstChoice, SpentWhen, FullWhen}
 use Rattle.definitions.specs.Listing.{Field, listingLines, listing}
-use Rattle.definitions.specs.Call.{unended, searched, answered, result}
+use Rattle.definitions.specs.Call.{refusal, unended, searched, answered, lendings, firstShort, result}
 use Rattle.definitions.specs.declared.Verdict.{Verdict}
 use Rattle.definitions.specs.declared.Verdict.the-variants.{Unsat, Unknown, Spent, Full}
-use Rattle.theory.specs.Tests.{by-test, apart}
+use Rattle.theory.specs.Tests.{apart}
 use Rattle.theory.specs.ListLaws.{Different}
 use Rattle.theory.specs.Steps.{IsDone}
 use Rattle.theory.specs.Ends.{search-ends}
@@ -87,7 +87,7 @@ module _ (sheet : List ℕ) (p : Problem) (reads : read sheet ≡ accepted p) (b
 -- so every call, on whatever bytes, budget and room, is refused or comes to one of the four answers
 pub call-comes-to-an-end : (sheet : List ℕ) (budget : ℕ) (room : List ℕ) → result sheet budget room ≡ unended → ⊥
 unfolding result answered searched
-call-comes-to-an-end sheet budget room e = by-test (leb 45056 (length room)) (λ t. from-reading (read sheet) refl (cc)) (λ t. apart (cc))
+call-comes-to-an-end sheet budget room e = from-lent (firstShort (lendings (length room))) e
   where
     from-outcome : (o : Outcome) → IsDone o → searched o ≡ unended → ⊥
     from-outcome o d h = let q = d .is in apart (cc)
@@ -95,3 +95,7 @@ call-comes-to-an-end sheet budget room e = by-test (leb 45056 (length room)) (λ
     from-reading : (r : Reading) → read sheet ≡ r → answered r budget ≡ unended → ⊥
     from-reading (refused q n) r h = apart (cc)
     from-reading (accepted p) r h = from-outcome (search p budget) (search-comes-to-an-answer sheet p r budget) h
+
+    from-lent : (short : Option ℕ) → elim short [ none ↦ answered (read sheet) budget | some q ↦ refusal q 0 ] ≡ unended → ⊥
+    from-lent none h = from-reading (read sheet) refl h
+    from-lent (some q) h = apart (cc)

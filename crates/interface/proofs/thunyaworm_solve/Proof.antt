@@ -1,7 +1,7 @@
 -- `interface::thunyaworm_solve` meets its contract: nothing without five places, otherwise the call. Assumes nothing.
 use native.Mathlib.Omega.{arith}
 use borrow.Author.Needs.{needs}
-use Rattle.interface.proofs.Values.{too-few, enough}
+use Rattle.interface.proofs.Values.{too-few, five-or-more}
 use Rattle.interface.proofs.thunyaworm_solve.Statement.{statement}
 use Rattle.interface.proofs.thunyaworm_solve.Tie as tie
 
@@ -27,7 +27,7 @@ returns-2 c =
     let a = c .before .before .before .before .before .before .before .before .before .before .before .before .args in
     let e = c .before .before .put-values .ensures in
     let called = c .before .before .before .before .before .before .solve .ensures in
-    enough (a .sheet .now) (a .budget) (a .room .now) (a .places .now) (omega arith) (called .0) (e .0) (e .1) (called .1)
+    five-or-more (a .sheet .now) (a .budget) (a .room .now) (a .places .now) (omega arith) (called .0) (e .0) (e .1) (called .1)
 
 pub thunyaworm-solve-spec : {M : Type 1} → statement M
 thunyaworm-solve-spec =

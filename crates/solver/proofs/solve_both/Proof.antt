@@ -1,26 +1,27 @@
--- `solver::solve_both` meets its contract: question 1, and then the sheet's. Assumes nothing.
-use native.Mathlib.Omega.{arith}
+-- `solver::solve_both` meets its contract: the questions about what is lent, and then the sheet's. Assumes nothing.
 use borrow.Author.Needs.{needs}
-use Rattle.solver.specs.SolvingLaws.{small-solved, large-solved}
+use Rattle.solver.specs.SolvingLaws.{lent-room, short-solved, enough-solved}
 use Rattle.solver.proofs.solve_both.Statement.{statement}
 use Rattle.solver.proofs.solve_both.Tie as tie
 
+first-short-requires : tie.Need-first-short-requires
+first-short-requires c κs = search needs
+
 returns : tie.Need-returns
 returns c =
-    let a = c .before .before .before .args in
-    small-solved (a .sheet .now) (a .budget) (a .room .now) (omega arith)
+    let a = c .before .before .before .before .args in
+    short-solved (a .sheet .now) (a .budget) (a .room .now) _ (c .before .first-short .ensures) (c .if1 .taken)
 
 answered-requires : tie.Need-answered-requires
-answered-requires c κs = search needs
+answered-requires c κs = lent-room _ _ (c .before .before .first-short .ensures) (c .before .if1 .left)
 
 same-length : tie.Need-same-length
 same-length c = search needs
 
 returns-2 : tie.Need-returns-2
 returns-2 c =
-    let a = c .before .before .before .before .before .before .before .args in
-    let e = c .before .before .answered in
-    large-solved (a .sheet .now) (a .budget) (a .room .now) (e .result) (e .last .1 .1 .0) (omega arith) (e .ensures)
+    let a = c .before .before .before .before .before .before .before .before .args in
+    enough-solved (a .sheet .now) (a .budget) (a .room .now) (lent-room _ _ (c .before .before .before .before .before .first-short .ensures) (c .before .before .before .before .if1 .left)) _ _ (c .before .before .answered .ensures)
 
 pub solve-both-spec : {M : Type 1} → statement M
-solve-both-spec = tie.close (tie.spec returns answered-requires same-length returns-2)
+solve-both-spec = tie.close (tie.spec first-short-requires returns answered-requires same-length returns-2)
