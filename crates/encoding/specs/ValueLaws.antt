@@ -69,22 +69,22 @@ module _ (values : List ℕ) (p : ℕ) where
     unfolding valueAt unassigned
     unassigned-here w q = rw q (getD-set-same values p unsetValue unsetValue inside)
 
-  module _ (w : ℕ) (other : w / 2 ≡ p → ⊥) where
-    pub assigned-elsewhere : valueAt (assigned values w) p ≡ valueAt values p
-    unfolding valueAt assigned
-    assigned-elsewhere = getD-set-other values (w / 2) p (trueValue + w % 2) unsetValue (λ q. other (cc))
+module _ (values : List ℕ) (w : ℕ) where
+  pub assigned-elsewhere : (i : ℕ) → (w / 2 ≡ i → ⊥) → valueAt (assigned values w) i ≡ valueAt values i
+  unfolding valueAt assigned
+  assigned-elsewhere i other = getD-set-other values (w / 2) i (trueValue + w % 2) unsetValue (λ q. other (cc))
 
-    pub unassigned-elsewhere : valueAt (unassigned values w) p ≡ valueAt values p
-    unfolding valueAt unassigned
-    unassigned-elsewhere = getD-set-other values (w / 2) p unsetValue unsetValue (λ q. other (cc))
+  pub unassigned-elsewhere : (i : ℕ) → (w / 2 ≡ i → ⊥) → valueAt (unassigned values w) i ≡ valueAt values i
+  unfolding valueAt unassigned
+  unassigned-elsewhere i other = getD-set-other values (w / 2) i unsetValue unsetValue (λ q. other (cc))
 
-pub length-assigned : (values : List ℕ) (w : ℕ) → length (assigned values w) ≡ length values
-unfolding assigned
-length-assigned values w = length-set values (w / 2) (trueValue + w % 2)
+  pub length-assigned : length (assigned values w) ≡ length values
+  unfolding assigned
+  length-assigned = length-set values (w / 2) (trueValue + w % 2)
 
-pub length-unassigned : (values : List ℕ) (w : ℕ) → length (unassigned values w) ≡ length values
-unfolding unassigned
-length-unassigned values w = length-set values (w / 2) unsetValue
+  pub length-unassigned : length (unassigned values w) ≡ length values
+  unfolding unassigned
+  length-unassigned = length-set values (w / 2) unsetValue
 
 -- atoms are unset in any order
 pub unassigned-either : (values : List ℕ) (v w : ℕ) → unassigned (unassigned values v) w ≡ unassigned (unassigned values w) v

@@ -102,8 +102,8 @@ module _ (sheet : List ℕ) (r : Read) (before after : Arrays) (left : SheetRead
 
 module _ (reading : Reading) (budget : ℕ) (r : Reached) (arities starts literals numbers table values : List ℕ)
     (reached : ReachedAs reading budget r arities starts literals numbers table values) where
-  pub reached-refusal : (f : Refusal) → r ≡ Reached.Refused f → reading ≡ refused (f .number) (f .line)
-  reached-refusal f e = from reading reached
+  pub reading-refused : (f : Refusal) → r ≡ Reached.Refused f → reading ≡ refused (f .number) (f .line)
+  reading-refused f e = from reading reached
     where
       same : {g h : Refusal} → Reached.Refused g ≡ Reached.Refused h → refused (g .number) (g .line) ≡ refused (h .number) (h .line)
       same d = cc
@@ -112,9 +112,9 @@ module _ (reading : Reading) (budget : ℕ) (r : Reached) (arities starts litera
       from (refused q n) h = same (sym h ∙ e)
       from (accepted p) h = apart (let z : Reached.Ended (length (p .clauses)) (h .0) ≡ Reached.Refused f = sym (h .1) ∙ e in cc)
 
-  pub reached-end : (given : ℕ) (ended : Ended) → r ≡ Reached.Ended given ended
+  pub reading-searched : (given : ℕ) (ended : Ended) → r ≡ Reached.Ended given ended
       → (p : Problem) × (reading ≡ accepted p) × AtEnd p budget ended given arities starts literals numbers table values
-  reached-end given ended e = from reading reached
+  reading-searched given ended e = from reading reached
     where
       from : (x : Reading) → ReachedAs x budget r arities starts literals numbers table values
           → (p : Problem) × (x ≡ accepted p) × AtEnd p budget ended given arities starts literals numbers table values

@@ -183,12 +183,12 @@ module _ (table : List Atom) (t : Trail) (values : List ℕ) (consistent : Consi
   unfolding seenWith trueWord falseWord
   seen-more c x m seen s =
       let inside = m x (last-in table t c x) in
-      let isT = true-word table t values valued consistent x inside in
-      let isF = false-word table t values valued consistent x inside in
+      let true-here = true-word table t values valued consistent x inside in
+      let false-here = false-word table t values valued consistent x inside in
       by-truth t consistent x
-      (λ p q. rw (isF ∙ q, isT ∙ p, seenWith) (inl (x, last-in table t c x, p)))
-      (λ p q. rw (isF ∙ q, seenWith) (false-more table t c x q seen s))
-      (λ p q. rw (isF ∙ q, isT ∙ p, seenWith) (unset-more table t c x (unset-of t x p q) m seen s))
+      (λ p q. rw (false-here ∙ q, true-here ∙ p, seenWith) (inl (x, last-in table t c x, p)))
+      (λ p q. rw (false-here ∙ q, seenWith) (false-more table t c x q seen s))
+      (λ p q. rw (false-here ∙ q, true-here ∙ p, seenWith) (unset-more table t c x (unset-of t x p q) m seen s))
 
   seen-all : (c rest : Clause) → ((l : Literal) → l ∈ c ++ rest → l .atom ∈ table) → (seen : Seen) → SeenOf table t c seen
       → SeenOf table t (c ++ rest) (seenFrom values seen (clauseWords table rest))

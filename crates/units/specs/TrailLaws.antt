@@ -119,15 +119,17 @@ set-stands {table} {t} {values} {trail} {marks} r s l y u m h =
     record {
       words = push (entryWord table) e t trail (omega (arith, r .trail-size)) (s .words);
       whys = push entryMark e t marks (omega (arith, r .marks-size)) (s .whys);
-      valued = changed-valued table values (assigned values (literalWord table l)) l m others t (e ∷ t) (s .valued) (assigned-truth table values e t (omega (arith, r .table-size, r .values-size, position-inside table (l .atom) m)) u) (truth-other e t);
-      outside = changed-outside table values (assigned values (literalWord table l)) l m others (s .outside);
+      valued = changed-valued table values (assigned values w) l m (assigned-elsewhere values w) t (e ∷ t) (s .valued)
+          (assigned-truth table values e t (omega (arith, r .table-size, r .values-size, position-inside table (l .atom) m)) u)
+          (truth-other e t);
+      outside = changed-outside table values (assigned values w) l m (assigned-elsewhere values w) (s .outside);
     }
   where
     e : Entry
     e = record { literal = l; why = y }
 
-    others : (i : ℕ) → (literalWord table l / 2 ≡ i → ⊥) → valueAt (assigned values (literalWord table l)) i ≡ valueAt values i
-    others i n = assigned-elsewhere values i (literalWord table l) n
+    w : ℕ
+    w = literalWord table l
 
 -- every entry's atom stands in the table
 abbrev pub EntriesEntered : List Atom → Trail → Type 0
@@ -151,10 +153,10 @@ unset-latest {table} {e} {t} {values} {trail} {marks} h s m n =
     record {
       words = pop (entryWord table) e t trail (s .words);
       whys = pop entryMark e t marks (s .whys);
-      valued = changed-valued table values (unassigned values w) (e .literal) m others (e ∷ t) t (s .valued)
+      valued = changed-valued table values (unassigned values w) (e .literal) m (unassigned-elsewhere values w) (e ∷ t) t (s .valued)
           (unassigned-here values (position table a) (omega (arith, position-inside table a m)) w (word-half table (e .literal)) ∙ sym (truth-unset t (plain a) (new-unset t (plain a) (rw plain-atom n))))
           (λ b k. sym (truth-other e t b k));
-      outside = changed-outside table values (unassigned values w) (e .literal) m others (s .outside);
+      outside = changed-outside table values (unassigned values w) (e .literal) m (unassigned-elsewhere values w) (s .outside);
     }
   where
     a : Atom
@@ -162,9 +164,6 @@ unset-latest {table} {e} {t} {values} {trail} {marks} h s m n =
 
     w : ℕ
     w = literalWord table (e .literal)
-
-    others : (i : ℕ) → (w / 2 ≡ i → ⊥) → valueAt (unassigned values w) i ≡ valueAt values i
-    others i k = unassigned-elsewhere values i w k
 
 -- what stands above a trail is undone
 pub undo-stands : {table : List Atom} (above t : Trail) {values trail marks : List ℕ} → Room table values trail marks → TrailStands table (above ++ t) values trail marks
