@@ -4,28 +4,11 @@
 use crate::case::Case;
 use crate::watch;
 
-extern "C" {
-    fn thunyaworm_solve(
-        sheet: *const u8,
-        sheet_length: usize,
-        budget: u32,
-        room: *mut u8,
-        room_length: usize,
-        values: *mut u64,
-        values_length: usize,
-    ) -> usize;
-    fn thunyaworm_listing(
-        sheet: *const u8,
-        sheet_length: usize,
-        budget: u32,
-        room: *mut u8,
-        room_length: usize,
-    ) -> usize;
-}
+include!("../../include/thunyaworm.rs");
 
 /// Bytes before and behind the lent room, not lent.
 const MARGIN: usize = 64;
-/// Places for values that are lent; an answer takes five.
+/// Places for values that are lent, more than an answer takes.
 const VALUES: usize = 8;
 const VALUE_PATTERN: u64 = 0xA5C3_0F96_5A3C_F069;
 
@@ -95,9 +78,9 @@ fn solve(case: &Case) -> Solved {
     }
 }
 
-/// With fewer than five places the first call does nothing and hands back 0.
-pub fn needs_five_places(case: &Case) -> bool {
-    (0..5).all(|places| {
+/// With fewer places than an answer takes the first call does nothing and hands back 0.
+pub fn needs_its_places(case: &Case) -> bool {
+    (0..THUNYAWORM_PLACES).all(|places| {
         let (count, values, room) = first_call(case, places);
         count == 0 && values == [VALUE_PATTERN; VALUES] && room.unchanged_behind(0)
     })

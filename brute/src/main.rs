@@ -30,7 +30,6 @@ use case::{printable, Case};
 use check::Same;
 use ended::Verdict;
 use random::Random;
-use reader::ROOM;
 use std::path::Path;
 use std::process::ExitCode;
 use std::time::{Duration, Instant};
@@ -94,9 +93,9 @@ fn random_sheets(seed: u64, count: u64) -> bool {
     let smallest = Case {
         sheet: b"   1   1\n".to_vec(),
         budget: 0,
-        room: ROOM,
+        room: interface::THUNYAWORM_ROOM,
     };
-    if !interface::needs_five_places(&smallest) {
+    if !interface::needs_its_places(&smallest) {
         differences += 1;
         println!("with fewer than five places the first call does not leave all unchanged and hand back 0");
     }
