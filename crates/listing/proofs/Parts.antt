@@ -17,7 +17,7 @@ use Rattle.definitions.specs.declared.Verdict.{Verdict}
 use Rattle.definitions.specs.declared.Verdict.the-variants.{Unsat, Unknown, Spent, Full}
 use Rattle.theory.specs.ListLaws.{joined-append}
 use Rattle.units.specs.Units.{clauseAt}
-use Rattle.search.specs.declared.Run.{Run}
+use Rattle.machine.specs.declared.Run.{Run}
 use Rattle.listing.specs.Puts.{Parts}
 use Rattle.listing.specs.Lines.{columnBytes, rowBytes, codeSymbol, codeConstant, constantNumber, codeNumbers, wordNumbers, loggedNumbers, loggedBytes, logBytes, settingBytes, settingsBytes, countBytes, listingBytes, ClausesListable}
 

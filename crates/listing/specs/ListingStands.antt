@@ -26,8 +26,8 @@ use Rattle.encoding.specs.TruthLaws.{Consistent, by-truth, unset-at, false-word
 use Rattle.encoding.specs.ArrayLaws.{front-at}
 use Rattle.units.specs.LiteralWords.{word-plain}
 use Rattle.theory.specs.PlaceLaws.{getElem-in}
-use Rattle.search.specs.Finished.{Finished}
-use Rattle.search.specs.declared.Ended.{Ended}
+use Rattle.machine.specs.Finished.{Finished}
+use Rattle.machine.specs.declared.Ended.{Ended}
 use Rattle.listing.specs.Lines.{rowBytes, columnBytes, codeNumbers, wordNumbers, loggedNumbers, loggedBytes, logBytes, settingBytes, settingsBytes, countBytes, listingBytes, ClausesListable}
 use Rattle.listing.specs.JoinedLaws.{joined-map, joined-joined, joined-places}
 use Rattle.listing.specs.CodeParts.{code-literal}

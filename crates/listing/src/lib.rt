@@ -10,7 +10,7 @@ ghost use Rattle.definitions.specs.Words.{Problem};
 ghost use Rattle.definitions.specs.Search.{State};
 ghost use Rattle.definitions.specs.Sheet.{plus};
 ghost use Rattle.definitions.specs.Listing.{fieldBytes, wide, answerNumber, listing as listed, refusalLine};
-ghost use Rattle.search.specs.Finished.{Finished};
+ghost use Rattle.machine.specs.Finished.{Finished};
 ghost use Rattle.listing.specs.Puts.{Put};
 ghost use Rattle.listing.specs.Lines.{columnBytes, rowBytes, codeConstant, constantNumber, codeNumbers, wordNumbers, loggedBytes, logBytes, settingBytes, settingsBytes, countBytes, listingBytes, ClausesListable};
 use definitions::Verdict;
@@ -20,8 +20,8 @@ use encoding::LOGGED;
 use encoding::STARTS;
 use encoding::SYMBOLS;
 use encoding::values;
-use search::Ended;
-use search::Run;
+use machine::Ended;
+use machine::Run;
 
 // LF.
 fn put_end(room: &mut [u8], at: usize) -> usize

@@ -4,8 +4,8 @@ use mathlib.Core.Path.{_≡_}
 use mathlib.Core.List.{List}
 use lib.ListN.{length}
 use Rattle.definitions.specs.Questions.{Reading, refused, accepted}
-use Rattle.search.specs.Finished.{AtEnd}
-use Rattle.search.specs.declared.Ended.{Ended}
+use Rattle.machine.specs.Finished.{AtEnd}
+use Rattle.machine.specs.declared.Ended.{Ended}
 use Rattle.pipe.specs.declared.Reached.{Reached}
 use Rattle.pipe.specs.declared.Reached.the-variants as Reached
 

@@ -21,10 +21,10 @@ use Rattle.sheet.specs.LineReads.{SheetRead}
 use Rattle.sheet.specs.declared.Read.{Read}
 use Rattle.sheet.specs.declared.Read.the-variants as Read
 use Rattle.log.specs.StoreLaws.{sets-start-at}
-use Rattle.search.specs.Machine.{Machine, machine, EndStands, Lengths, Loaded}
-use Rattle.search.specs.Loading.{heldMachine, accepted-loaded}
-use Rattle.search.specs.Finished.{AtEnd, at-end}
-use Rattle.search.specs.declared.Ended.{Ended}
+use Rattle.machine.specs.Machine.{Machine, machine, EndStands, Lengths, Loaded}
+use Rattle.machine.specs.Loading.{heldMachine, accepted-loaded}
+use Rattle.machine.specs.Finished.{AtEnd, at-end}
+use Rattle.machine.specs.declared.Ended.{Ended}
 use Rattle.pipe.specs.Reaching.{ReachedAs}
 use Rattle.pipe.specs.declared.Reached.{Reached}
 use Rattle.pipe.specs.declared.Reached.the-variants as Reached

@@ -16,7 +16,7 @@ use sheet::Read;
 // The first question that is answered no; or the number of goal clauses, and what the search came to.
 pub enum Reached {
     Refused(Refusal),
-    Ended(usize, search::Ended),
+    Ended(usize, machine::Ended),
 }
 
 // Reads the sheet and searches it. The values must be unset; the other arrays may hold anything.

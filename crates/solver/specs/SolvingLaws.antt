@@ -20,8 +20,8 @@ use Rattle.theory.specs.Tests.{by-test}
 use Rattle.theory.specs.Theorems.{listing-at-most}
 use Rattle.theory.specs.CallLaws.{short-room, large-room}
 use Rattle.column.specs.Sets.{sets-front}
-use Rattle.search.specs.Finished.{Finished, AtEnd}
-use Rattle.search.specs.declared.Ended.{Ended}
+use Rattle.machine.specs.Finished.{Finished, AtEnd}
+use Rattle.machine.specs.declared.Ended.{Ended}
 use Rattle.listing.specs.Puts.{Put}
 use Rattle.solver.specs.Solving.{SolvedAs, ShortIs}
 use Rattle.solver.specs.declared.Solved.{Solved}

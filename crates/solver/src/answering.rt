@@ -6,7 +6,7 @@ ghost use Rattle.definitions.specs.Questions.{read};
 ghost use Rattle.definitions.specs.Search.{State};
 ghost use Rattle.definitions.specs.Listing.{listing as listingOf};
 ghost use Rattle.definitions.specs.Call.{ended as endedIn, answered as answeredOf};
-ghost use Rattle.search.specs.Finished.{Finished};
+ghost use Rattle.machine.specs.Finished.{Finished};
 ghost use Rattle.solver.specs.Solving.{SolvedAs};
 use crate::Solved;
 use definitions::Answer;
@@ -17,7 +17,7 @@ use encoding::LOGGED;
 use encoding::STARTS;
 use encoding::SYMBOLS;
 use pipe::Reached;
-use search::Ended;
+use machine::Ended;
 
 // The listing and the counts of a search that has ended, from its arrays.
 fn listed(

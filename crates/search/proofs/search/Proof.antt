@@ -1,6 +1,6 @@
 -- `search::search` meets its contract: the arrays as they are read stand for the start of the search. Assumes nothing.
 use native.Mathlib.Omega.{arith}
-use Rattle.search.specs.Loading.{startRun, loaded-stepping, loaded-ends}
+use Rattle.machine.specs.Loading.{startRun, loaded-stepping, loaded-ends}
 use Rattle.search.proofs.search.Statement.{statement}
 use Rattle.search.proofs.search.Tie as tie
 

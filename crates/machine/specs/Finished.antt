@@ -7,8 +7,8 @@ use Rattle.definitions.specs.Words.{Problem}
 use Rattle.definitions.specs.Search.{State, Outcome, more, done, search}
 use Rattle.definitions.specs.declared.Verdict.{Verdict}
 use Rattle.theory.specs.Limits.{Searchable}
-use Rattle.search.specs.Machine.{Machine, machine, StandsAtEnd, EndStands}
-use Rattle.search.specs.declared.Ended.{Ended}
+use Rattle.machine.specs.Machine.{Machine, machine, StandsAtEnd, EndStands}
+use Rattle.machine.specs.declared.Ended.{Ended}
 
 -- the arrays stand for the state in which the search of a problem ended, and for the arities of its symbols
 pub record Finished (p : Problem) (budget : ℕ) (s : State) (ended : Ended) (given : ℕ) (arities starts literals numbers table values : List ℕ) : Type 0 where

@@ -27,9 +27,9 @@ use Rattle.units.specs.TrailLaws.{words-small}
 use Rattle.walk.specs.Walk.{firesAt, firstFrom, walkFrom}
 use Rattle.rules.specs.Firing.{firesUnder}
 use Rattle.log.specs.Logging.{LogFits}
-use Rattle.search.specs.Machine.{Machine, logIn, actOf, walkOf, Stands, Running}
-use Rattle.search.specs.StandsLaws.{room-for, act-as, unit-unset, back-none, back-some, goal-unset, goal-none, goal-some}
-use Rattle.search.specs.declared.Run.{Run}
+use Rattle.machine.specs.Machine.{Machine, logIn, actOf, walkOf, Stands, Running}
+use Rattle.machine.specs.StandsLaws.{room-for, act-as, unit-unset, back-none, back-some, goal-unset, goal-none, goal-some}
+use Rattle.machine.specs.declared.Run.{Run}
 use Rattle.units.specs.declared.Act.the-variants.{Force, Nothing}
 use Rattle.walk.specs.declared.Found.the-variants.{Instance}
 use Rattle.walk.specs.WalkLaws.{found-below, firstFrom-passes}

@@ -33,13 +33,13 @@ use Rattle.walk.specs.WalkStands.{WalkAs}
 use Rattle.log.specs.Logging.{Log}
 use Rattle.log.specs.LogHolds.{LogHolds}
 use Rattle.log.specs.LogStands.{logged-full, logged-stands}
-use Rattle.search.specs.Machine.{Machine, logIn, Stands, StandsAtEnd, RulesStand, NextStands}
-use Rattle.search.specs.MachineSteps.{Stepped, stepped, setAt, undoFrom, withTrail, withLog, onTrail, onLog, oneSet, oneDecided, oneConflict, oneLogged, flipAt, conflictStep, unitStep, instanceStep, decideStep, goalStep, machineStep}
-use Rattle.search.specs.StandsLaws.{true-words, true-known, room-for, act-as, unit-unset, back-none, back-some, walk-as, goal-unset, goal-none, goal-some}
+use Rattle.machine.specs.Machine.{Machine, logIn, Stands, StandsAtEnd, RulesStand, NextStands}
+use Rattle.machine.specs.MachineSteps.{Stepped, stepped, setAt, undoFrom, withTrail, withLog, onTrail, onLog, oneSet, oneDecided, oneConflict, oneLogged, flipAt, conflictStep, unitStep, instanceStep, decideStep, goalStep, machineStep}
+use Rattle.machine.specs.StandsLaws.{true-words, true-known, room-for, act-as, unit-unset, back-none, back-some, walk-as, goal-unset, goal-none, goal-some}
 use Rattle.units.specs.BacktrackLaws.{zero-backtrack-none}
 use Rattle.rules.specs.RuleStands.{rule-variables}
-use Rattle.search.specs.declared.Run.{Run}
-use Rattle.search.specs.declared.Next.the-variants.{More, Done}
+use Rattle.machine.specs.declared.Run.{Run}
+use Rattle.machine.specs.declared.Next.the-variants.{More, Done}
 use Rattle.walk.specs.declared.Found.{Found}
 use Rattle.walk.specs.declared.Found.the-variants.{Instance, Nowhere}
 

@@ -26,10 +26,10 @@ use Rattle.walk.specs.Walk.{walkFrom}
 use Rattle.walk.specs.declared.Found.{Found}
 use Rattle.log.specs.Logging.{Log}
 use Rattle.log.specs.LogHolds.{LogHolds}
-use Rattle.search.specs.declared.Run.{Run}
-use Rattle.search.specs.declared.Ended.{Ended}
-use Rattle.search.specs.declared.Next.{Next}
-use Rattle.search.specs.declared.Next.the-variants.{More, Done}
+use Rattle.machine.specs.declared.Run.{Run}
+use Rattle.machine.specs.declared.Ended.{Ended}
+use Rattle.machine.specs.declared.Next.{Next}
+use Rattle.machine.specs.declared.Next.the-variants.{More, Done}
 
 -- the arrays that the search changes
 pub record Machine : Type 0 where

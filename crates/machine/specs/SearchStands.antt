@@ -10,8 +10,8 @@ use Rattle.definitions.specs.declared.Verdict.{Verdict}
 use Rattle.theory.specs.Limits.{Searchable}
 use Rattle.theory.specs.Steps.{Falls, kind}
 use Rattle.theory.specs.Ends.{Fits, start-fits, measure, step-falls, start-measure, run-enough}
-use Rattle.search.specs.Machine.{Machine, EndStands}
-use Rattle.search.specs.declared.Ended.{Ended}
+use Rattle.machine.specs.Machine.{Machine, EndStands}
+use Rattle.machine.specs.declared.Ended.{Ended}
 
 module _ (k : Task) (budget : ℕ) (s : State) where
   more-falls : Fits k s → (s′ : State) → step k budget s ≡ more s′ → Fits k s′ × (measure budget s′ < measure budget s)

@@ -14,12 +14,12 @@ use Rattle.units.specs.TrailWords.{markOf, latestDecision, cleared, firstUnset}
 use Rattle.log.specs.Logging.{Log, logUnder}
 use Rattle.encoding.specs.declared.Sizes.{Sizes}
 use Rattle.encoding.specs.Lent.{TrailArrays, trailArrays}
-use Rattle.search.specs.Machine.{Machine, logIn, actOf, walkOf}
+use Rattle.machine.specs.Machine.{Machine, logIn, actOf, walkOf}
 use Rattle.rules.specs.Rules.{ruleVariables}
 use Rattle.rules.specs.Fillings.{fillingOf}
-use Rattle.search.specs.declared.Run.{Run}
-use Rattle.search.specs.declared.Next.{Next}
-use Rattle.search.specs.declared.Next.the-variants.{More, Done}
+use Rattle.machine.specs.declared.Run.{Run}
+use Rattle.machine.specs.declared.Next.{Next}
+use Rattle.machine.specs.declared.Next.the-variants.{More, Done}
 use Rattle.units.specs.declared.Act.the-variants.{Conflict, Force, Nothing}
 use Rattle.walk.specs.declared.Found.the-variants.{Instance, Nowhere}
 

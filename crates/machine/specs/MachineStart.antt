@@ -22,7 +22,7 @@ use Rattle.units.specs.TrailLaws.{start-stands}
 use Rattle.theory.specs.PlaceLaws.{joined-size}
 use Rattle.log.specs.StoreLaws.{sets-start-take}
 use Rattle.log.specs.LogStart.{start-holds}
-use Rattle.search.specs.Machine.{machine, Stands, RulesStand}
+use Rattle.machine.specs.Machine.{machine, Stands, RulesStand}
 
 -- the rules stand first in their array
 pub rules-stand : (p : Problem) → Searchable p → (before : Arrays) → length (before .rules) ≡ 704 → RulesStand p (hold p before .rules)

@@ -28,11 +28,11 @@ use Rattle.units.specs.TrailWords.{latestDecision, firstUnset, TrailStands}
 use Rattle.walk.specs.Walk.{walkFrom}
 use Rattle.walk.specs.WalkStands.{WalkAs, walk-stands}
 use Rattle.log.specs.LogHolds.{holds-index}
-use Rattle.search.specs.Machine.{Machine, logIn, Stands, RulesStand}
+use Rattle.machine.specs.Machine.{Machine, logIn, Stands, RulesStand}
 use Rattle.encoding.specs.TruthLaws.{Consistent, true-word}
 use Rattle.units.specs.BacktrackLaws.{DecidedTrue, backtrack-none-zero, Backtracked, backtrack-stands}
 use Rattle.units.specs.FirstUnset.{first-unset-some, first-unset-none}
-use Rattle.search.specs.declared.Run.{Run}
+use Rattle.machine.specs.declared.Run.{Run}
 
 -- decisions stand at true
 decided-true : (k : Task) {t : Trail} → Ok k (choiceWorld k) t → DecidedTrue t

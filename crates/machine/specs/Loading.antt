@@ -14,13 +14,13 @@ use Rattle.encoding.specs.Slots.{ruleWords}
 use Rattle.encoding.specs.Values.{noValues}
 use Rattle.encoding.specs.Encoding.{atomCode, clauseWords, startsFrom, Arrays, hold, sizesOf, emptyIndex}
 use Rattle.encoding.specs.declared.Sizes.{Sizes}
-use Rattle.search.specs.Machine.{Machine, machine, Stands, RulesStand, EndStands, EndsRun, Lengths, Loaded}
-use Rattle.search.specs.MachineStart.{rules-stand, machine-start}
-use Rattle.search.specs.SearchStands.{search-stands}
-use Rattle.search.specs.Upkeep.{upkeepOf}
-use Rattle.search.specs.Stepping.{Stepping, start-follow}
-use Rattle.search.specs.declared.Run.{Run}
-use Rattle.search.specs.declared.Ended.{Ended}
+use Rattle.machine.specs.Machine.{Machine, machine, Stands, RulesStand, EndStands, EndsRun, Lengths, Loaded}
+use Rattle.machine.specs.MachineStart.{rules-stand, machine-start}
+use Rattle.machine.specs.SearchStands.{search-stands}
+use Rattle.machine.specs.Upkeep.{upkeepOf}
+use Rattle.machine.specs.Stepping.{Stepping, start-follow}
+use Rattle.machine.specs.declared.Run.{Run}
+use Rattle.machine.specs.declared.Ended.{Ended}
 
 -- the counts before the first step
 unfoldable pub startRun : Sizes → Run
