@@ -1,5 +1,5 @@
 -- The arrays as the reader of a sheet leaves them stand for the start of the search. Assumes nothing.
-use Prim.Native.Nat.{ℕ, suc, _<_, _^_}
+use Prim.Native.Nat.{ℕ, _<_, _^_}
 use mathlib.Core.Path.{_≡_, refl, sym, ap, subst, _∙_}
 use mathlib.Core.List.{List, map}
 use lib.ListN.{length, replicate}

@@ -2,7 +2,7 @@
 use Prim.Native.Nat.{ℕ, suc, _*_, _<_, _^_}
 use mathlib.Core.Path.{_≡_}
 use mathlib.Core.List.{List}
-use lib.ListN.{length, take, replicate}
+use lib.ListN.{length, take}
 use denote.Triple.Both.{Both}
 use Rattle.definitions.specs.Lists.{joined}
 use Rattle.definitions.specs.Words.{Problem}

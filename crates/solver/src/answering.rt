@@ -16,8 +16,8 @@ use encoding::LITERALS;
 use encoding::LOGGED;
 use encoding::STARTS;
 use encoding::SYMBOLS;
-use pipe::Reached;
 use machine::Ended;
+use pipe::Reached;
 
 // The listing and the counts of a search that has ended, from its arrays.
 fn listed(
