@@ -2,14 +2,14 @@
 use Prim.Native.Nat.{ℕ}
 use Rattle.definitions.specs.Sheet as sheet
 use Rattle.definitions.specs.Sheet.{number, fault}
-use Rattle.column.specs.declared.Column.{Column}
-use Rattle.column.specs.declared.Column.the-variants.{Number, Fault}
+use Rattle.column.specs.declared.ColumnRead.{ColumnRead}
+use Rattle.column.specs.declared.ColumnRead.the-variants.{Number, Fault}
 
-unfoldable pub columnOf : Column → sheet.Column
+unfoldable pub columnOf : ColumnRead → sheet.Column
 columnOf (Number negative size) = number (record { negative = negative; size = size })
 columnOf Fault = fault
 
 -- the size of the number, 0 where there is none
-unfoldable pub sizeOf : Column → ℕ
+unfoldable pub sizeOf : ColumnRead → ℕ
 sizeOf (Number negative size) = size
 sizeOf Fault = 0

@@ -12,7 +12,7 @@ ghost use Rattle.column.specs.Scan.{readOn, sizeBefore, ReadAs};
 ghost use Rattle.column.specs.Places.{sign, PutLast};
 
 // What stands in a column: a number, its sign apart from its size, or no decimal.
-pub enum Column {
+pub enum ColumnRead {
     Number { negative: bool, size: u16 },
     Fault,
 }
@@ -84,23 +84,23 @@ fn step(scan: Scan, b: u8) -> Scan
 }
 
 // The column, once all of its bytes are scanned.
-fn finish(scan: Scan) -> Column
+fn finish(scan: Scan) -> ColumnRead
     ensures { λ r. ⌜ (columnOf r ≡ readOn scan []) × (sizeOf r ≤ sizeBefore scan) ⌝ }
 {
     match scan {
-        Scan::Digits { negative, size } => Column::Number { negative, size },
-        Scan::Zero => Column::Number {
+        Scan::Digits { negative, size } => ColumnRead::Number { negative, size },
+        Scan::Zero => ColumnRead::Number {
             negative: false,
             size: 0,
         },
-        Scan::Blanks => Column::Fault,
-        Scan::Minus => Column::Fault,
-        Scan::Failed => Column::Fault,
+        Scan::Blanks => ColumnRead::Fault,
+        Scan::Minus => ColumnRead::Fault,
+        Scan::Failed => ColumnRead::Fault,
     }
 }
 
 // What stands in the four bytes from `at` on.
-pub fn read_column(s: &[u8], at: usize) -> Column
+pub fn read_column(s: &[u8], at: usize) -> ColumnRead
     requires { ⌜ at + 4 ≤ length (now s) ⌝ }
     ensures reads { λ r. ⌜ columnOf r ≡ decimal (take 4 (drop at (now (s .entry)))) ⌝ }
     ensures small { λ r. ⌜ sizeOf r ≤ 9999 ⌝ }

@@ -6,8 +6,8 @@ use Prim.Native.Nat.{ℕ}
 abbrev pub sheetBytes : ℕ
 sheetBytes = 16384
 
-abbrev pub lineBytes : ℕ
-lineBytes = 136
+abbrev pub longestLine : ℕ
+longestLine = 136
 
 abbrev pub mostConstants : ℕ
 mostConstants = 32

@@ -4,7 +4,7 @@ use mathlib.Core.Bool.{true, false, not}
 use mathlib.Core.List.{List, [], _∷_, _++_, map}
 use lib.Dec.{ltb}
 use lib.ListN.{length, replicate}
-use Rattle.definitions.specs.Lists.{joined, keep}
+use Rattle.definitions.specs.Lists.{joined, filter}
 use Rattle.definitions.specs.Words.{Atom, Literal, negate, plain}
 use Rattle.definitions.specs.Sheet.{Number, plus}
 use Rattle.definitions.specs.Search.{State, Logged, clauseOf, isTrue}
@@ -70,7 +70,7 @@ setLine l = map narrow (plus 7 ∷ literalNumbers l)
 
 -- the literal of the atom that is true, if the atom is set
 unfoldable pub setLiteral : State → Atom → List Literal
-setLiteral s a = keep (isTrue (s .trail)) (plain a ∷ negate (plain a) ∷ [])
+setLiteral s a = filter (isTrue (s .trail)) (plain a ∷ negate (plain a) ∷ [])
 
 -- for UNKNOWN only: the set atoms, in table order
 unfoldable pub settings : Verdict → State → List Literal

@@ -25,19 +25,19 @@ module _ {A : Type 0} where
   all p (x ∷ xs) = p x && all p xs
 
   -- the elements that pass the test
-  unfoldable pub keep : (A → Bool) → List A → List A
-  keep p [] = []
-  keep p (x ∷ xs) = elim (p x) [ true ↦ x ∷ keep p xs | false ↦ keep p xs ]
+  unfoldable pub filter : (A → Bool) → List A → List A
+  filter p [] = []
+  filter p (x ∷ xs) = elim (p x) [ true ↦ x ∷ filter p xs | false ↦ filter p xs ]
 
   -- the first element that passes the test
-  unfoldable pub firstOf : (A → Bool) → List A → Option A
-  firstOf p [] = none
-  firstOf p (x ∷ xs) = elim (p x) [ true ↦ some x | false ↦ firstOf p xs ]
+  unfoldable pub find : (A → Bool) → List A → Option A
+  find p [] = none
+  find p (x ∷ xs) = elim (p x) [ true ↦ some x | false ↦ find p xs ]
 
   -- the list without the repeats of an earlier element
   unfoldable pub distinct : (A → A → Bool) → List A → List A
   distinct same [] = []
-  distinct same (x ∷ xs) = x ∷ keep (λ y. not (same x y)) (distinct same xs)
+  distinct same (x ∷ xs) = x ∷ filter (λ y. not (same x y)) (distinct same xs)
 
   -- no two elements are the same
   unfoldable pub allDifferent : (A → A → Bool) → List A → Bool
@@ -67,5 +67,5 @@ upFrom first (suc n) = first ∷ upFrom (suc first) n
 
 -- names every definition of this module, for a theorem that computes with all of them
 unfoldable pub Lists·all : Unit {0}
-unfolding isEmpty any all keep firstOf distinct allDifferent listOf firstSome joined upFrom
+unfolding isEmpty any all filter find distinct allDifferent listOf firstSome joined upFrom
 Lists·all = tt

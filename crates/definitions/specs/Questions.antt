@@ -5,7 +5,7 @@ use mathlib.Core.List.{List, [], _∷_, _++_}
 use lib.Dec.{eqb, leb, ltb}
 use lib.ListN.{length, getD}
 use Rattle.definitions.specs.Lists.{isEmpty, all}
-use Rattle.definitions.specs.Bounds.{sheetBytes, lineBytes, mostConstants, mostSymbols, mostArguments, mostVariables, mostRules, mostHeads, mostBody, mostClauses, mostLiterals, mostGoals}
+use Rattle.definitions.specs.Bounds.{sheetBytes, longestLine, mostConstants, mostSymbols, mostArguments, mostVariables, mostRules, mostHeads, mostBody, mostClauses, mostLiterals, mostGoals}
 use Rattle.definitions.specs.Words.{Literal, Clause, Term, variable, constant, Pattern, Rule, Problem, goalAtoms}
 use Rattle.definitions.specs.Instances.{occursIn}
 use Rattle.definitions.specs.Sheet.{Line, lines, Number, Column, number, fault, decimal}
@@ -234,7 +234,7 @@ lineOfKind k p ns =
 
 -- 5: the length without LF is 4 to 136 and a multiple of 4
 unfoldable pub goodLength : ℕ → Bool
-goodLength n = leb 4 n && leb n lineBytes && eqb (n % 4) 0
+goodLength n = leb 4 n && leb n longestLine && eqb (n % 4) 0
 
 -- 4 to 6: the columns of a line
 unfoldable pub columnsAsked : Line → Asked (List Number)

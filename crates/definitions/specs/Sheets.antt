@@ -5,7 +5,7 @@ use mathlib.Core.Bool.{Bool, false, not, _&&_}
 use mathlib.Core.List.{List, [], _∷_, _++_, map}
 use lib.Dec.{eqb}
 use lib.ListN.{take, drop}
-use Rattle.definitions.specs.Lists.{_∈_, keep, joined}
+use Rattle.definitions.specs.Lists.{_∈_, filter, joined}
 use Rattle.definitions.specs.Words.{Problem}
 use Rattle.definitions.specs.Sheet.{Line, lines, Number, plus, number, decimal}
 use Rattle.definitions.specs.Questions.{no, yes, columns, accepted, read}
@@ -38,7 +38,7 @@ isKind k (n ∷ ns) = not (n .negative) && eqb (n .size) k
 
 -- the lines of a kind, from the top
 unfoldable pub ofKind : ℕ → List ℕ → List Row
-ofKind k sheet = keep (isKind k) (map rowOf (lines sheet))
+ofKind k sheet = filter (isKind k) (map rowOf (lines sheet))
 
 -- the number behind the kind on the first line of kind 1
 unfoldable pub firstSize : Row → ℕ

@@ -6,7 +6,7 @@ use lib.Dec.{eqb}
 use lib.ListN.{getD, set}
 use borrow.Author.Tests.{eq-eqb, ne-eqb}
 use Rattle.encoding.specs.Values.{Value, unsetValue, trueValue, falseValue, isUnsetValue, isTrueValue, isFalseValue, opposite, valueAt, unsetAt, literalValue, trueWord, falseWord, assigned, unassigned}
-use Rattle.encoding.specs.ValueLaws.{is-true, not-true, is-false, not-false}
+use Rattle.encoding.specs.ValueLaws.{is-true, other-than-true, is-false, other-than-false}
 
 module _ (v : Value) where
   pub opposite-true : v ≡ trueValue → falseValue ≡ opposite v
@@ -15,11 +15,11 @@ module _ (v : Value) where
 
   pub opposite-false : (v ≡ trueValue → ⊥) → v ≡ falseValue → trueValue ≡ opposite v
   unfolding opposite
-  opposite-false n e = cc (not-true v n, is-false v e)
+  opposite-false n e = cc (other-than-true v n, is-false v e)
 
   pub opposite-unset : (v ≡ trueValue → ⊥) → (v ≡ falseValue → ⊥) → unsetValue ≡ opposite v
   unfolding opposite
-  opposite-unset n m = cc (not-true v n, not-false v m)
+  opposite-unset n m = cc (other-than-true v n, other-than-false v m)
 
 pub unset-is : (values : List ℕ) (at : ℕ) → eqb (getD values at 0) unsetValue ≡ unsetAt values at
 unfolding unsetAt valueAt isUnsetValue

@@ -1,9 +1,11 @@
 -- Arrays that are lent to a function: what they hold when it is called and when it is done. The arrays of a search are records in the
 -- grain in which functions change them. Assumes nothing.
 use Prim.Native.Nat.{ℕ}
+use mathlib.Core.Path.{_≡_}
 use mathlib.Core.List.{List}
 use denote.Ref.{RefT}
 use denote.Triple.Both.{Both}
+use Rattle.encoding.specs.Encoding.{Arrays, arrays}
 
 -- an array as a `requires` names it, and at both moments, as an `ensures` does
 abbrev pub Array : Type 0
@@ -11,6 +13,13 @@ Array = RefT (List ℕ)
 
 abbrev pub Lent : Type 0
 Lent = Both Array Array
+
+-- how what is left stands to what was lent, and that it is made of it by a function
+abbrev pub Between : {A : Type 0} → (A → A → Type 0) → Both A A → Type 0
+Between R x = R (x .entry) (x .exit)
+
+abbrev pub Becomes : {A : Type 0} → (A → A) → Both A A → Type 0
+Becomes f x = x .exit ≡ f (x .entry)
 
 -- the clause store: where each clause starts, the words of all their literals, and of each logged clause its number of heads and its
 -- rule's number
@@ -47,6 +56,13 @@ lentStore starts literals heads numbers =
     record {
       entry = clauseStore (starts .entry .now) (literals .entry .now) (heads .entry .now) (numbers .entry .now);
       exit = clauseStore (starts .exit .now) (literals .exit .now) (heads .exit .now) (numbers .exit .now);
+    }
+
+abbrev pub lentArrays : Lent → Lent → Lent → Lent → Lent → Lent → Both Arrays Arrays
+lentArrays arities rules starts literals table index =
+    record {
+      entry = arrays (arities .entry .now) (rules .entry .now) (starts .entry .now) (literals .entry .now) (table .entry .now) (index .entry .now);
+      exit = arrays (arities .exit .now) (rules .exit .now) (starts .exit .now) (literals .exit .now) (table .exit .now) (index .exit .now);
     }
 
 abbrev pub lentTrail : Lent → Lent → Lent → Both TrailArrays TrailArrays

@@ -19,17 +19,17 @@ module _ (v : Value) where
   unfolding isTrueValue
   is-true e = cc
 
-  pub not-true : (v ≡ trueValue → ⊥) → isTrueValue v ≡ false
+  pub other-than-true : (v ≡ trueValue → ⊥) → isTrueValue v ≡ false
   unfolding isTrueValue
-  not-true n = ne-eqb v trueValue n
+  other-than-true n = ne-eqb v trueValue n
 
   pub is-false : v ≡ falseValue → isFalseValue v ≡ true
   unfolding isFalseValue
   is-false e = cc
 
-  pub not-false : (v ≡ falseValue → ⊥) → isFalseValue v ≡ false
+  pub other-than-false : (v ≡ falseValue → ⊥) → isFalseValue v ≡ false
   unfolding isFalseValue
-  not-false n = ne-eqb v falseValue n
+  other-than-false n = ne-eqb v falseValue n
 
 -- ── a literal's value ──
 

@@ -7,7 +7,7 @@ use mathlib.Core.Option.{some}
 use mathlib.Core.List.{List, [], _∷_, _++_, map, append-nil, append-assoc, List·Memᴰ·head, List·Memᴰ·tail}
 use native.Mathlib.Omega.{arith}
 use lib.ListN.{length, getElem?, length-map}
-use Rattle.definitions.specs.Lists.{_∈_, joined, keep}
+use Rattle.definitions.specs.Lists.{_∈_, joined, filter}
 use Rattle.definitions.specs.Words.{Atom, Literal, negate, plain, Clause, Problem}
 use Rattle.definitions.specs.Instances.{taskOf}
 use Rattle.definitions.specs.Search.{isFalse, isUnset, Logged, clauseOf, State}
@@ -92,7 +92,7 @@ module _ (p : Problem) (budget : ℕ) (s : State) (ended : Ended) (given : ℕ) 
 
   setting-stands : (i : ℕ) (a : Atom) → getElem? (s .table) i ≡ some a
       → settingBytes arities table values i ≡ joined (λ l. lineBytes (setLine l)) (setLiteral s a)
-  unfolding settingBytes rowBytes setLine setLiteral keep joined isUnset isFalse plain negate
+  unfolding settingBytes rowBytes setLine setLiteral filter joined isUnset isFalse plain negate
   setting-stands i a e =
       let m = getElem-in (s .table) i a e .1 in
       let place = sym (position-at (s .table) (h .stands .log .different) i a e) in

@@ -1,10 +1,13 @@
 -- A clause enters the arrays literal by literal: an atom outside the table enters it at its end. Assumes nothing.
 use Prim.Native.Nat.{ℕ, zero, suc, _+_, _-_, _*_, _/_, _%_, _≤_, _<_}
+use mathlib.Core.Path.{_≡_}
 use mathlib.Core.Bool.{true, false}
 use mathlib.Core.List.{List}
 use lib.Dec.{eqb}
 use lib.ListN.{getD, set}
+use denote.Triple.Both.{Both}
 use Rattle.encoding.specs.Encoding.{codeOf}
+use Rattle.encoding.specs.Lent.{Lent}
 
 -- a slot of a clause: its symbol is one of 16, and no term is above constant 32
 pub record ClauseSlot (slots : List ℕ) (base : ℕ) : Type 0 where
@@ -46,3 +49,14 @@ enterLiteral code sign e =
 unfoldable pub enterSlots : List ℕ → ℕ → ℕ → Entered → Entered
 enterSlots slots i zero e = e
 enterSlots slots i (suc n) e = enterSlots slots (i + 1) n (enterLiteral (slotCode slots (4 * i)) (getD slots (4 * i) 0 % 2) e)
+
+-- lent: the arrays by both counts, and what a function that enters literals leaves there
+abbrev pub lentEntered : Lent → Lent → Lent → Both (ℕ → ℕ → Entered) (ℕ → ℕ → Entered)
+lentEntered literals table index =
+    record {
+      entry = λ atoms count. entered atoms count (literals .entry .now) (table .entry .now) (index .entry .now);
+      exit = λ atoms count. entered atoms count (literals .exit .now) (table .exit .now) (index .exit .now);
+    }
+
+abbrev pub Enters : (Entered → Entered) → ℕ → ℕ → ℕ → ℕ → Both (ℕ → ℕ → Entered) (ℕ → ℕ → Entered) → Type 0
+Enters enter atoms count atoms₁ count₁ e = e .exit atoms₁ count₁ ≡ enter (e .entry atoms count)

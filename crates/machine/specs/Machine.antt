@@ -21,7 +21,7 @@ use Rattle.encoding.specs.Values.{noValues}
 use Rattle.units.specs.TrailWords.{TrailStands}
 use Rattle.units.specs.TrailLaws.{Room}
 use Rattle.units.specs.Units.{actFrom}
-use Rattle.units.specs.declared.Act.{Act}
+use Rattle.units.specs.declared.UnitAct.{UnitAct}
 use Rattle.walk.specs.Walk.{walkFrom}
 use Rattle.walk.specs.declared.Found.{Found}
 use Rattle.log.specs.Logging.{Log}
@@ -58,7 +58,7 @@ abbrev pub logIn : Machine → Run → Log
 logIn m run = record { atoms = run .atoms; clauses = run .clauses; store = m .store; table = m .table }
 
 -- what step A and step B find
-abbrev pub actOf : Sizes → Machine → Run → Act
+abbrev pub actOf : Sizes → Machine → Run → UnitAct
 actOf sizes m run = actFrom (m .trail .values) (m .store .starts) (m .store .literals) (m .store .heads) (sizes .clauses) (sizes .atoms) 0 (run .clauses)
 
 abbrev pub walkOf : List ℕ → Sizes → Machine → Found

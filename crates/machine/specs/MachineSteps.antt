@@ -20,7 +20,7 @@ use Rattle.rules.specs.Fillings.{fillingOf}
 use Rattle.machine.specs.declared.Run.{Run}
 use Rattle.machine.specs.declared.Next.{Next}
 use Rattle.machine.specs.declared.Next.the-variants.{More, Done}
-use Rattle.units.specs.declared.Act.the-variants.{Conflict, Force, Nothing}
+use Rattle.units.specs.declared.UnitAct.the-variants.{Conflict, Force, Nothing}
 use Rattle.walk.specs.declared.Found.the-variants.{Instance, Nowhere}
 
 -- what a step answers, and the arrays that it changes as it leaves them

@@ -7,12 +7,12 @@ use mathlib.Core.List.{List}
 use native.Mathlib.Omega.{arith}
 use lib.Dec.{eqb}
 use lib.ListN.{length, getD}
-use borrow.Author.Tests.{eqb-false}
+use borrow.Author.Tests.{eqb-false, not-true}
 use Rattle.definitions.specs.Lists.{_∈_}
 use Rattle.definitions.specs.Words.{Atom, Literal, plain, Problem}
 use Rattle.definitions.specs.Instances.{taskOf}
 use Rattle.definitions.specs.Search.{State, Act, conflict, force, nextGoal, backtrack}
-use Rattle.theory.specs.Tests.{by-option, apart, not-true, and-left}
+use Rattle.theory.specs.Tests.{by-option, apart, and-left}
 use Rattle.theory.specs.ListLaws.{all-each}
 use Rattle.theory.specs.Ends.{trail-length}
 use Rattle.encoding.specs.Encoding.{literalWord, sizesOf}
@@ -30,7 +30,7 @@ use Rattle.log.specs.Logging.{LogFits}
 use Rattle.machine.specs.Machine.{Machine, logIn, actOf, walkOf, Stands, Running}
 use Rattle.machine.specs.StandsLaws.{room-for, act-as, unit-unset, back-none, back-some, goal-unset, goal-none, goal-some}
 use Rattle.machine.specs.declared.Run.{Run}
-use Rattle.units.specs.declared.Act.the-variants.{Force, Nothing}
+use Rattle.units.specs.declared.UnitAct.the-variants.{Force, Nothing}
 use Rattle.walk.specs.declared.Found.the-variants.{Instance}
 use Rattle.walk.specs.WalkLaws.{found-below, firstFrom-passes}
 use Rattle.rules.specs.Rules.{codeUnder, trueUnder, headSlots, ruleVariables, RulesFit, IndexFits}

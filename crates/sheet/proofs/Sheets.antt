@@ -146,7 +146,7 @@ module _ (arities rules starts literals table index : List ℕ) where
 -- ── the loop ──
 
 -- after some lines: the draft that they make, which the arrays hold, and the sheet from the next line on
-pub record Reached (sheet : List ℕ) (start held : Arrays) (s : Sizes) (before from line : ℕ) : Type 0 where
+pub record ReadUpTo (sheet : List ℕ) (start held : Arrays) (s : Sizes) (before from line : ℕ) : Type 0 where
   pub short : length sheet ≤ 16384
   pub empty : start .index ≡ emptyIndex
   pub wide : length (start .arities) ≡ 16
@@ -161,7 +161,7 @@ pub record Reached (sheet : List ℕ) (start held : Arrays) (s : Sizes) (before 
 
 module _ {sheet arities rules : List ℕ} (starts : List ℕ) {literals table index : List ℕ} where
   pub reached-start : length sheet ≤ 16384 → (length sheet ≡ 0 → ⊥) → index ≡ emptyIndex → length arities ≡ 16
-      → Reached sheet (arrays arities rules (set starts 0 0) literals table index) (arrays arities rules (set starts 0 0) literals table index)
+      → ReadUpTo sheet (arrays arities rules (set starts 0 0) literals table index) (arrays arities rules (set starts 0 0) literals table index)
       (record { constants = 0; symbols = 0; rules = 0; clauses = 0; atoms = 0; literals = 0 }) 0 0 1
   unfolding sizesOf emptyDraft joined goalAtoms distinct
   reached-start h n e w =
@@ -179,7 +179,7 @@ module _ {sheet arities rules : List ℕ} (starts : List ℕ) {literals table in
         rest = sym (read-all sheet h n);
       }
 
-  pub reached-end : {held : Arrays} {s : Sizes} {before from line : ℕ} → Reached sheet (arrays arities rules (set starts 0 0) literals table index) held s before from line
+  pub reached-end : {held : Arrays} {s : Sizes} {before from line : ℕ} → ReadUpTo sheet (arrays arities rules (set starts 0 0) literals table index) held s before from line
       → length sheet ≤ from → SheetRead (read sheet) (Accepted s) (arrays arities rules starts literals table index) held
   unfolding readLines
   reached-end reached h =
@@ -225,7 +225,7 @@ module _ (start : Arrays) (empty : start .index ≡ emptyIndex) (wide : length (
   ends-yes (no p) k r after h s e = apart (cc)
   ends-yes (yes d) k r after h s e = let g = h .1 in (d, refl, h .0, (cc), h .2)
 
-module _ {sheet : List ℕ} {start held : Arrays} {s : Sizes} {before from line : ℕ} (reached : Reached sheet start held s before from line) where
+module _ {sheet : List ℕ} {start held : Arrays} {s : Sizes} {before from line : ℕ} (reached : ReadUpTo sheet start held s before from line) where
   pub reached-ready : Ready s (held .arities) (held .index)
   reached-ready =
       rw (reached .sizes, reached .holds)
@@ -261,7 +261,7 @@ module _ {sheet : List ℕ} {start held : Arrays} {s : Sizes} {before from line 
         line-stop {q} e = line-refused q (ends-no start (reached .empty) (reached .wide) _ kind answer after ended q e)
 
         -- the line is read, and the next one stands behind its LF
-        pub reached-next : {next : Sizes} → answer ≡ Yes next → Reached sheet start after next kind (end + 1) (line + 1)
+        pub reached-next : {next : Sizes} → answer ≡ Yes next → ReadUpTo sheet start after next kind (end + 1) (line + 1)
         unfolding readLines
         reached-next {next} e =
             let (d, q, k, z, h) = ends-yes start (reached .empty) (reached .wide) _ kind answer after ended next e in

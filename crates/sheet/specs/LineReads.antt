@@ -12,6 +12,7 @@ use Rattle.definitions.specs.Questions.{Asked, no, yes, constantsAsked, arityAs
 use Rattle.encoding.specs.Slots.{asPattern, slotWords, ruleWords}
 use Rattle.literals.specs.Entering.{Entered, entered, enterSlots}
 use Rattle.encoding.specs.Encoding.{Arrays, arrays, hold, sizesOf}
+use Rattle.encoding.specs.Lent.{Lent}
 use Rattle.encoding.specs.declared.Sizes.{Sizes}
 use Rattle.sheet.specs.declared.Read.{Read}
 use Rattle.sheet.specs.declared.Read.the-variants.{Refused, Accepted}
@@ -61,6 +62,10 @@ pub record ClauseHeld (c : Clause) (r : LineRead) (s : Sizes) (starts₀ starts�
 abbrev pub ClauseRead : Asked Clause → LineRead → Sizes → List ℕ → List ℕ → List ℕ → List ℕ → List ℕ → List ℕ → List ℕ → List ℕ → Type 0
 ClauseRead (no q) r s starts₀ starts₁ literals₀ literals₁ table₀ table₁ index₀ index₁ = r ≡ No q
 ClauseRead (yes c) r s starts₀ starts₁ literals₀ literals₁ table₀ table₁ index₀ index₁ = ClauseHeld c r s starts₀ starts₁ literals₀ literals₁ table₀ table₁ index₀ index₁
+
+abbrev pub ClauseReads : Asked Clause → LineRead → Sizes → Lent → Lent → Lent → Lent → Type 0
+ClauseReads asked r s starts literals table index =
+    ClauseRead asked r s (starts .entry .now) (starts .exit .now) (literals .entry .now) (literals .exit .now) (table .entry .now) (table .exit .now) (index .entry .now) (index .exit .now)
 
 -- what the readers ask of the sizes and arrays: that they keep the limits
 pub record Ready (s : Sizes) (arities₀ index₀ : List ℕ) : Type 0 where

@@ -7,7 +7,7 @@ ghost use Rattle.definitions.specs.Questions.{columns, within, columnsAsked};
 ghost use Rattle.encoding.specs.Signs.{wordOf, numberOf, numbers};
 ghost use Rattle.sheet.specs.Rows.{rowAsked, lineLength, kindHere};
 ghost use Rattle.sheet.specs.LineReads.{columnsRead};
-use column::Column;
+use column::ColumnRead;
 use encoding::COLUMNS;
 
 // The most bytes of a line, before its LF.
@@ -50,10 +50,10 @@ pub fn read_row(sheet: &[u8], from: usize, count: usize, row: &mut [u16; COLUMNS
     while i < count {
         let at = from + 4 * i;
         match column::read_column(sheet, at) {
-            Column::Number { negative, size } => {
+            ColumnRead::Number { negative, size } => {
                 row[i] = word(negative, size);
             }
-            Column::Fault => {
+            ColumnRead::Fault => {
                 return false;
             }
         }

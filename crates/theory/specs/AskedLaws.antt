@@ -6,11 +6,11 @@ use mathlib.Core.List.{List, [], _∷_, _++_}
 use native.Mathlib.Omega.{arith}
 use lib.Dec.{leb}
 use lib.ListN.{length, length-append, getD, List·getD-append}
-use borrow.Author.Tests.{leb-true, le-leb}
+use borrow.Author.Tests.{leb-true, le-leb, not-true}
 use Rattle.definitions.specs.Words.{constant, Rule, Clause}
 use Rattle.definitions.specs.Sheet.{Number}
 use Rattle.definitions.specs.Questions.{Asked, no, yes, _>>=_, _>>_, ask, Walk, within, count, ruleArgument, clauseArgument, arguments, literal, literals, patternOf, literalOf, patterns, clauseLiterals, ruleCounts, ruleBehind, clauseCount, clauseBehind}
-use Rattle.theory.specs.Tests.{by-test, apart, not-true, and-left, and-right, and-intro}
+use Rattle.theory.specs.Tests.{by-test, apart, and-left, and-right, and-intro}
 
 -- ── every question of an accepted chain is answered yes ──
 

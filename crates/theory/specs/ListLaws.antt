@@ -7,7 +7,7 @@ use mathlib.Core.Option.{Option, none, some}
 use mathlib.Core.List.{List, [], _∷_, _++_, List·Memᴰ·head, List·Memᴰ·tail, List·Memᴰ·cases-cons, List·Memᴰ·append-cases, List·Memᴰ·not-nil, Memᴰ·append-left, Memᴰ·append-right, Memᴰ·cast, head-eq-of-cons-eq, tail-eq-of-cons-eq}
 use native.Mathlib.Omega.{arith}
 use lib.ListN.{length, length-append}
-use Rattle.definitions.specs.Lists.{_∈_, any, all, keep, firstOf, distinct, firstSome, joined}
+use Rattle.definitions.specs.Lists.{_∈_, any, all, filter, find, distinct, firstSome, joined}
 use Rattle.theory.specs.Tests.{by-test, by-option, apart, none≢some}
 
 -- an element of a list that is split
@@ -38,25 +38,25 @@ module _ {A : Type 0} (p : A → Bool) where
     pub fail : (y : A) → y ∈ before → p y ≡ false
     pub pass : p x ≡ true
 
-  pub firstOf-first : (xs : List A) (x : A) → firstOf p xs ≡ some x → First xs x
-  unfolding firstOf
-  firstOf-first [] x h = none≢some h
-  firstOf-first (y ∷ ys) x h =
+  pub find-first : (xs : List A) (x : A) → find p xs ≡ some x → First xs x
+  unfolding find
+  find-first [] x h = none≢some h
+  find-first (y ∷ ys) x h =
       by-test (p y)
       (λ e. record { before = []; after = ys; split = cc; fail = λ z m. absurd (List·Memᴰ·not-nil m); pass = cc })
-      (λ e. let f = firstOf-first ys x (cc) in record { before = y ∷ f .before; after = f .after; split = cc; fail = λ z m. elim (List·Memᴰ·cases-cons m) [ inl q ↦ cc | inr n ↦ f .fail z n ]; pass = f .pass })
+      (λ e. let f = find-first ys x (cc) in record { before = y ∷ f .before; after = f .after; split = cc; fail = λ z m. elim (List·Memᴰ·cases-cons m) [ inl q ↦ cc | inr n ↦ f .fail z n ]; pass = f .pass })
 
-  pub firstOf-in : (xs : List A) (x : A) → firstOf p xs ≡ some x → x ∈ xs
-  firstOf-in xs x h = let f = firstOf-first xs x h in in-along (f .split) (at-split (f .before) (f .after))
+  pub find-in : (xs : List A) (x : A) → find p xs ≡ some x → x ∈ xs
+  find-in xs x h = let f = find-first xs x h in in-along (f .split) (at-split (f .before) (f .after))
 
-  pub firstOf-passes : (xs : List A) (x : A) → firstOf p xs ≡ some x → p x ≡ true
-  firstOf-passes xs x h = firstOf-first xs x h .pass
+  pub find-passes : (xs : List A) (x : A) → find p xs ≡ some x → p x ≡ true
+  find-passes xs x h = find-first xs x h .pass
 
-  pub firstOf-none : (xs : List A) → firstOf p xs ≡ none → (x : A) → x ∈ xs → p x ≡ false
-  unfolding firstOf
-  firstOf-none [] h x m = absurd (List·Memᴰ·not-nil m)
-  firstOf-none (y ∷ ys) h x (List·Memᴰ·head q) = by-test (p y) (λ e. apart (cc)) (λ e. cc)
-  firstOf-none (y ∷ ys) h x (List·Memᴰ·tail m) = by-test (p y) (λ e. apart (cc)) (λ e. firstOf-none ys (cc) x m)
+  pub find-none : (xs : List A) → find p xs ≡ none → (x : A) → x ∈ xs → p x ≡ false
+  unfolding find
+  find-none [] h x m = absurd (List·Memᴰ·not-nil m)
+  find-none (y ∷ ys) h x (List·Memᴰ·head q) = by-test (p y) (λ e. apart (cc)) (λ e. cc)
+  find-none (y ∷ ys) h x (List·Memᴰ·tail m) = by-test (p y) (λ e. apart (cc)) (λ e. find-none ys (cc) x m)
 
   pub any-some : (xs : List A) → any p xs ≡ true → (x : A) × (x ∈ xs) × (p x ≡ true)
   unfolding any
@@ -87,46 +87,46 @@ module _ {A : Type 0} (p : A → Bool) where
   all-of [] h = refl
   all-of (y ∷ ys) h = cc (h y (List·Memᴰ·head refl), all-of ys (λ x m. h x (List·Memᴰ·tail m)))
 
-  pub keep-of : (xs : List A) (x : A) → x ∈ xs → p x ≡ true → x ∈ keep p xs
-  unfolding keep
-  keep-of (y ∷ ys) x (List·Memᴰ·head q) h =
+  pub filter-of : (xs : List A) (x : A) → x ∈ xs → p x ≡ true → x ∈ filter p xs
+  unfolding filter
+  filter-of (y ∷ ys) x (List·Memᴰ·head q) h =
       let e : p y ≡ true = cc in
-      rw (e, keep) (List·Memᴰ·head q)
-  keep-of (y ∷ ys) x (List·Memᴰ·tail m) h =
-      by-test (p y) (λ e. rw (e, keep) (List·Memᴰ·tail (keep-of ys x m h))) (λ e. rw (e, keep) (keep-of ys x m h))
+      rw (e, filter) (List·Memᴰ·head q)
+  filter-of (y ∷ ys) x (List·Memᴰ·tail m) h =
+      by-test (p y) (λ e. rw (e, filter) (List·Memᴰ·tail (filter-of ys x m h))) (λ e. rw (e, filter) (filter-of ys x m h))
 
-  pub keep-in : (xs : List A) (x : A) → x ∈ keep p xs → (x ∈ xs) × (p x ≡ true)
-  unfolding keep
-  keep-in [] x m = absurd (List·Memᴰ·not-nil m)
-  keep-in (y ∷ ys) x m =
+  pub filter-in : (xs : List A) (x : A) → x ∈ filter p xs → (x ∈ xs) × (p x ≡ true)
+  unfolding filter
+  filter-in [] x m = absurd (List·Memᴰ·not-nil m)
+  filter-in (y ∷ ys) x m =
       by-test (p y)
-      (λ e. elim (List·Memᴰ·cases-cons (rw (e, keep) at m)) [
+      (λ e. elim (List·Memᴰ·cases-cons (rw (e, filter) at m)) [
         | inl q ↦ (List·Memᴰ·head q, cc)
-        | inr n ↦ let (k, h) = keep-in ys x n in (List·Memᴰ·tail k, h)
+        | inr n ↦ let (k, h) = filter-in ys x n in (List·Memᴰ·tail k, h)
       ])
-      (λ e. let (k, h) = keep-in ys x (rw (e, keep) at m) in (List·Memᴰ·tail k, h))
+      (λ e. let (k, h) = filter-in ys x (rw (e, filter) at m) in (List·Memᴰ·tail k, h))
 
-  pub keep-length : (xs : List A) → length (keep p xs) ≤ length xs
-  unfolding keep
-  keep-length [] = omega arith
-  keep-length (y ∷ ys) =
-      let h = keep-length ys in
-      by-test (p y) (λ e. rw (e, keep) (omega arith)) (λ e. rw (e, keep) (omega arith))
+  pub filter-length : (xs : List A) → length (filter p xs) ≤ length xs
+  unfolding filter
+  filter-length [] = omega arith
+  filter-length (y ∷ ys) =
+      let h = filter-length ys in
+      by-test (p y) (λ e. rw (e, filter) (omega arith)) (λ e. rw (e, filter) (omega arith))
 
-  pub keep-append : (xs ys : List A) → keep p (xs ++ ys) ≡ keep p xs ++ keep p ys
-  unfolding keep
-  keep-append [] ys = refl
-  keep-append (x ∷ xs) ys = let h = keep-append xs ys in by-test (p x) (λ e. cc) (λ e. cc)
+  pub filter-append : (xs ys : List A) → filter p (xs ++ ys) ≡ filter p xs ++ filter p ys
+  unfolding filter
+  filter-append [] ys = refl
+  filter-append (x ∷ xs) ys = let h = filter-append xs ys in by-test (p x) (λ e. cc) (λ e. cc)
 
-  pub keep-all : (xs : List A) → ((x : A) → x ∈ xs → p x ≡ true) → keep p xs ≡ xs
-  unfolding keep
-  keep-all [] h = refl
-  keep-all (x ∷ xs) h = cc (h x (List·Memᴰ·head refl), keep-all xs (λ y m. h y (List·Memᴰ·tail m)))
+  pub filter-all : (xs : List A) → ((x : A) → x ∈ xs → p x ≡ true) → filter p xs ≡ xs
+  unfolding filter
+  filter-all [] h = refl
+  filter-all (x ∷ xs) h = cc (h x (List·Memᴰ·head refl), filter-all xs (λ y m. h y (List·Memᴰ·tail m)))
 
-  pub keep-none : (xs : List A) → ((x : A) → x ∈ xs → p x ≡ false) → keep p xs ≡ []
-  unfolding keep
-  keep-none [] h = refl
-  keep-none (x ∷ xs) h = cc (h x (List·Memᴰ·head refl), keep-none xs (λ y m. h y (List·Memᴰ·tail m)))
+  pub filter-none : (xs : List A) → ((x : A) → x ∈ xs → p x ≡ false) → filter p xs ≡ []
+  unfolding filter
+  filter-none [] h = refl
+  filter-none (x ∷ xs) h = cc (h x (List·Memᴰ·head refl), filter-none xs (λ y m. h y (List·Memᴰ·tail m)))
 
 module _ {A B : Type 0} (f : A → Option B) where
   pub firstSome-in : (xs : List A) (b : B) → firstSome f xs ≡ some b → (x : A) × (x ∈ xs) × (f x ≡ some b)
@@ -170,13 +170,13 @@ module _ {A : Type 0} (same : A → A → Bool) where
   distinct-in (y ∷ ys) x m =
       elim (List·Memᴰ·cases-cons m) [
         | inl q ↦ List·Memᴰ·head q
-        | inr n ↦ List·Memᴰ·tail (distinct-in ys x (keep-in _ (distinct same ys) x n .0))
+        | inr n ↦ List·Memᴰ·tail (distinct-in ys x (filter-in _ (distinct same ys) x n .0))
       ]
 
   pub distinct-length : (xs : List A) → length (distinct same xs) ≤ length xs
   unfolding distinct
   distinct-length [] = omega arith
-  distinct-length (y ∷ ys) = omega (arith, distinct-length ys, keep-length (λ x. not (same y x)) (distinct same ys))
+  distinct-length (y ∷ ys) = omega (arith, distinct-length ys, filter-length (λ x. not (same y x)) (distinct same ys))
 
   module _ (eq : (x y : A) → same x y ≡ true → x ≡ y) where
     pub distinct-of : (xs : List A) (x : A) → x ∈ xs → x ∈ distinct same xs
@@ -185,7 +185,7 @@ module _ {A : Type 0} (same : A → A → Bool) where
     distinct-of (y ∷ ys) x (List·Memᴰ·tail m) =
         by-test (same y x)
         (λ e. List·Memᴰ·head (sym (eq y x e)))
-        (λ e. List·Memᴰ·tail (keep-of _ (distinct same ys) x (distinct-of ys x m) (cc)))
+        (λ e. List·Memᴰ·tail (filter-of _ (distinct same ys) x (distinct-of ys x m) (cc)))
 
 -- no element stands twice
 abbrev pub Different : {A : Type 0} → List A → Type 0

@@ -11,7 +11,7 @@ use native.Mathlib.Nat.{pow-suc}
 use lib.Dec.{ltb}
 use lib.ListN.{length, take, drop, replicate, length-append, length-map, length-replicate}
 use borrow.Author.Tests.{ltb-false}
-use Rattle.definitions.specs.Lists.{_∈_, joined, keep, listOf, Lists·all}
+use Rattle.definitions.specs.Lists.{_∈_, joined, filter, listOf, Lists·all}
 use Rattle.definitions.specs.Words.{Atom, Literal, negate, plain, sameLiteral}
 use Rattle.definitions.specs.Sheet.{Number, plus, number, decimal, Sheet·all}
 use Rattle.definitions.specs.Search.{State, Logged, clauseOf, isTrue}
@@ -19,7 +19,7 @@ use Rattle.definitions.specs.Listing.{Field, decimals, signedDecimals, rightJus
 use Rattle.definitions.specs.declared.Verdict.{Verdict}
 use Rattle.definitions.specs.declared.Verdict.the-variants.{Unsat, Unknown, Spent, Full}
 use Rattle.theory.specs.Tests.{by-test}
-use Rattle.theory.specs.ListLaws.{distinct-length, keep-in, keep-length, joined-in, joined-append, joined-length, Each, each-nil, each-cons, each-append}
+use Rattle.theory.specs.ListLaws.{distinct-length, filter-in, filter-length, joined-in, joined-append, joined-length, Each, each-nil, each-cons, each-append}
 
 -- ── a column ──
 
@@ -189,7 +189,7 @@ unfolding settings setLiteral negate plain
 set-listable Unsat s h l m = absurd (List·Memᴰ·not-nil m)
 set-listable Unknown s h l m =
     let (a, k, j) = joined-in (setLiteral s) (s .table) l m in
-    let i = keep-in (isTrue (s .trail)) (plain a ∷ negate (plain a) ∷ []) l j .0 in
+    let i = filter-in (isTrue (s .trail)) (plain a ∷ negate (plain a) ∷ []) l j .0 in
     let e : l .atom ≡ a = elim (List·Memᴰ·cases-cons i) [
       | inl q ↦ ap (λ x. x .atom) q
       | inr n ↦ ap (λ x. x .atom) (List·Memᴰ·eq-of-singleton n)
@@ -239,11 +239,11 @@ set-length l h =
 
 -- an atom has at most one line, since it isn't set both ways
 atom-settings : (s : State) → Listable s → (a : Atom) → a ∈ s .table → length (setLiteral s a) ≤ 1
-unfolding setLiteral keep
+unfolding setLiteral filter
 atom-settings s h a m =
     by-test (isTrue (s .trail) (plain a))
-    (λ p. by-test (isTrue (s .trail) (negate (plain a))) (λ q. absurd (h .settled a m p q)) (λ q. rw (p, q, setLiteral, keep) (omega arith)))
-    (λ p. rw (p, setLiteral, keep) (keep-length (isTrue (s .trail)) (negate (plain a) ∷ [])))
+    (λ p. by-test (isTrue (s .trail) (negate (plain a))) (λ q. absurd (h .settled a m p q)) (λ q. rw (p, q, setLiteral, filter) (omega arith)))
+    (λ p. rw (p, setLiteral, filter) (filter-length (isTrue (s .trail)) (negate (plain a) ∷ [])))
 
 settings-length : (v : Verdict) (s : State) → Listable s → length (settings v s) ≤ 256
 unfolding settings

@@ -8,9 +8,9 @@ use mathlib.Core.List.{List, [], _∷_, _++_, map, List·Memᴰ·head, List·Mem
 use native.Mathlib.Omega.{arith}
 use lib.ListN.{length, getD, getElem?, length-append, List·getD-append}
 use lib.Seq.{getD-append-add}
-use Rattle.definitions.specs.Lists.{_∈_, isEmpty, any, all, keep, firstOf, joined, allDifferent, upFrom}
+use Rattle.definitions.specs.Lists.{_∈_, isEmpty, any, all, filter, find, joined, allDifferent, upFrom}
 use Rattle.theory.specs.Tests.{by-test, apart, none≢some, some-injective}
-use Rattle.theory.specs.ListLaws.{keep-in, Different}
+use Rattle.theory.specs.ListLaws.{filter-in, Different}
 use Rattle.theory.specs.InstanceLaws.{upFrom-in}
 
 -- ── the element at a place ──
@@ -71,13 +71,13 @@ unfolding upFrom
 upFrom-different a zero = tt
 upFrom-different a (suc k) = (λ m. omega (arith, upFrom-in (suc a) k a m .0), upFrom-different (suc a) k)
 
-pub keep-different : {A : Type 0} (p : A → Bool) (xs : List A) → Different xs → Different (keep p xs)
-unfolding keep
-keep-different p [] d = tt
-keep-different p (x ∷ xs) d =
+pub filter-different : {A : Type 0} (p : A → Bool) (xs : List A) → Different xs → Different (filter p xs)
+unfolding filter
+filter-different p [] d = tt
+filter-different p (x ∷ xs) d =
     by-test (p x)
-    (λ e. rw (e, keep) (λ m. d .0 (keep-in p xs x m .0), keep-different p xs (d .1)))
-    (λ e. rw (e, keep) (keep-different p xs (d .1)))
+    (λ e. rw (e, filter) (λ m. d .0 (filter-in p xs x m .0), filter-different p xs (d .1)))
+    (λ e. rw (e, filter) (filter-different p xs (d .1)))
 
 -- ── joined lists ──
 
@@ -141,21 +141,21 @@ module _ {A B : Type 0} (R : A → B → Type 0) where
 
 -- ── kept and first elements ──
 
-pub keep-alike : {A : Type 0} (f g : A → Bool) (xs : List A) → ((x : A) → x ∈ xs → f x ≡ g x) → keep f xs ≡ keep g xs
-unfolding keep
-keep-alike f g [] h = refl
-keep-alike f g (x ∷ xs) h =
+pub filter-alike : {A : Type 0} (f g : A → Bool) (xs : List A) → ((x : A) → x ∈ xs → f x ≡ g x) → filter f xs ≡ filter g xs
+unfolding filter
+filter-alike f g [] h = refl
+filter-alike f g (x ∷ xs) h =
     let here = h x (List·Memᴰ·head refl) in
-    let rest = keep-alike f g xs (λ y m. h y (List·Memᴰ·tail m)) in
+    let rest = filter-alike f g xs (λ y m. h y (List·Memᴰ·tail m)) in
     by-test (g x) (λ e. cc) (λ e. cc)
 
 module _ {A : Type 0} (passes : A → Bool) where
-  pub firstOf-append-some : (xs ys : List A) (x : A) → firstOf passes xs ≡ some x → firstOf passes (xs ++ ys) ≡ some x
-  unfolding firstOf
-  firstOf-append-some [] ys x e = none≢some e
-  firstOf-append-some (z ∷ xs) ys x e = by-test (passes z) (λ h. cc) (λ h. cc (firstOf-append-some xs ys x (cc)))
+  pub find-append-some : (xs ys : List A) (x : A) → find passes xs ≡ some x → find passes (xs ++ ys) ≡ some x
+  unfolding find
+  find-append-some [] ys x e = none≢some e
+  find-append-some (z ∷ xs) ys x e = by-test (passes z) (λ h. cc) (λ h. cc (find-append-some xs ys x (cc)))
 
-  pub firstOf-append-none : (xs ys : List A) → firstOf passes xs ≡ none → firstOf passes (xs ++ ys) ≡ firstOf passes ys
-  unfolding firstOf
-  firstOf-append-none [] ys e = refl
-  firstOf-append-none (z ∷ xs) ys e = by-test (passes z) (λ h. apart (cc)) (λ h. cc (firstOf-append-none xs ys (cc)))
+  pub find-append-none : (xs ys : List A) → find passes xs ≡ none → find passes (xs ++ ys) ≡ find passes ys
+  unfolding find
+  find-append-none [] ys e = refl
+  find-append-none (z ∷ xs) ys e = by-test (passes z) (λ h. apart (cc)) (λ h. cc (find-append-none xs ys (cc)))

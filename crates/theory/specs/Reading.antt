@@ -8,7 +8,7 @@ use native.Mathlib.Omega.{arith}
 use lib.Dec.{eqb, leb, ltb}
 use lib.ListN.{length, drop}
 use borrow.Author.Tests.{eqb-true, eqb-false, leb-true}
-use Rattle.definitions.specs.Lists.{_∈_, isEmpty, keep, joined}
+use Rattle.definitions.specs.Lists.{_∈_, isEmpty, filter, joined}
 use Rattle.definitions.specs.Words.{Rule, Clause, Problem, goalAtoms}
 use Rattle.definitions.specs.Sheet.{Line, lines, Number}
 use Rattle.definitions.specs.Questions.{Asked, yes, Walk, count, kindOf, constantsAsked, arityAsked, ruleCounts, ruleAsked, clauseCount, clauseAsked, withConstants, withSymbol, withRule, withClause, constantsLine, symbolLine, ruleLine, clauseLine, lineOfKind, goodLength, columnsAsked, Draft, readLine, accepted, readLines, emptyDraft, read}
@@ -231,30 +231,30 @@ rest-one before s kind ns k t ones twos threes fours p (clause u h b) r =
     }
 
 -- a row of kind k stands in front of the rows of its kind, and of no other
-keep-kind : (j k : ℕ) (kind : Number) (ns : Row) (rows : List Row) → kind .negative ≡ false → kind .size ≡ k
-    → keep (isKind j) ((kind ∷ ns) ∷ rows) ≡ front j k (kind ∷ ns) (keep (isKind j) rows)
-unfolding keep isKind front
-keep-kind j k kind ns rows s z = cc
+filter-kind : (j k : ℕ) (kind : Number) (ns : Row) (rows : List Row) → kind .negative ≡ false → kind .size ≡ k
+    → filter (isKind j) ((kind ∷ ns) ∷ rows) ≡ front j k (kind ∷ ns) (filter (isKind j) rows)
+unfolding filter isKind front
+filter-kind j k kind ns rows s z = cc
 
 -- what the rows say, before they are sorted by kind
 abbrev RestOf : ℕ → Problem → List Row → Problem → Type 0
-RestOf before s rows p = Rest before s (keep (isKind 1) rows) (keep (isKind 2) rows) (keep (isKind 3) rows) (keep (isKind 4) rows) p
+RestOf before s rows p = Rest before s (filter (isKind 1) rows) (filter (isKind 2) rows) (filter (isKind 3) rows) (filter (isKind 4) rows) p
 
 rest-row : (before : ℕ) (s : Problem) (row : Row) (k : ℕ) (t : Problem) (rows : List Row) (p : Problem)
     → LineRead before s row k t → RestOf k t rows p → RestOf before s (row ∷ rows) p
 rest-row before s row k t rows p l r =
     rw (
       l .split,
-      keep-kind 1 k (l .kind) (l .rest) rows (l .sign) (l .size),
-      keep-kind 2 k (l .kind) (l .rest) rows (l .sign) (l .size),
-      keep-kind 3 k (l .kind) (l .rest) rows (l .sign) (l .size),
-      keep-kind 4 k (l .kind) (l .rest) rows (l .sign) (l .size),
+      filter-kind 1 k (l .kind) (l .rest) rows (l .sign) (l .size),
+      filter-kind 2 k (l .kind) (l .rest) rows (l .sign) (l .size),
+      filter-kind 3 k (l .kind) (l .rest) rows (l .sign) (l .size),
+      filter-kind 4 k (l .kind) (l .rest) rows (l .sign) (l .size),
     )
     (rest-one before s (l .kind) (l .rest) k t _ _ _ _ p (l .adds) r)
 
 -- from any draft on; the number of the line matters only to a refusal
 lines-read : (d : Draft) (n : ℕ) (ls : List Line) (p : Problem) → readLines d n ls ≡ accepted p → RestOf (d .before) (d .problem) (map rowOf ls) p
-unfolding readLines keep
+unfolding readLines filter
 lines-read d n [] p e = let same : d .problem ≡ p = cc in rw (← same) (rest-none (d .before) (d .problem))
 lines-read d n (l ∷ ls) p e =
     by-asked (readLine d l)

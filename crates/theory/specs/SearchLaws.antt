@@ -4,12 +4,13 @@ use mathlib.Core.Logic.{_⊎_, inl, inr}
 use mathlib.Core.Bool.{Bool, true, false, not, _&&_, _||_}
 use mathlib.Core.Option.{Option, none, some}
 use mathlib.Core.List.{List, [], _∷_, map, List·Memᴰ·head, List·Memᴰ·tail, List·Memᴰ·cases-cons, List·Memᴰ·append-cases, List·Memᴰ·eq-of-singleton, List·Memᴰ·not-nil, Memᴰ·append-left, Memᴰ·append-right, Memᴰ·cast, Memᴰ·map, Memᴰ·of-map}
-use Rattle.definitions.specs.Lists.{_∈_, isEmpty, any, all, keep, distinct, listOf, firstSome}
+use borrow.Author.Tests.{not-true}
+use Rattle.definitions.specs.Lists.{_∈_, isEmpty, any, all, filter, distinct, listOf, firstSome}
 use Rattle.definitions.specs.Words.{Atom, Literal, negate, plain, sameAtom, sameLiteral, Clause, goalAtoms}
 use Rattle.definitions.specs.Instances.{Instance, Task}
 use Rattle.definitions.specs.Search.{Why, decided, flipped, forced, Entry, Trail, isTrue, isFalse, isUnset, Logged, clauseOf, State, Act, conflict, force, notFalse, actOn, isGoal, goalAct, loggedAct, nextAct, fires, nextInstance, loggedOf, enter, enterTaken, nextGoal}
-use Rattle.theory.specs.Tests.{by-test, by-option, apart, true-and-false, not-true, and-left, and-right, or-cases}
-use Rattle.theory.specs.ListLaws.{First, firstOf-first, firstOf-in, firstOf-passes, firstOf-none, any-some, any-of, all-each, all-of, keep-of, keep-in, keep-none, firstSome-in, firstSome-none, distinct-in, distinct-of}
+use Rattle.theory.specs.Tests.{by-test, by-option, apart, true-and-false, and-left, and-right, or-cases}
+use Rattle.theory.specs.ListLaws.{First, find-first, find-in, find-passes, find-none, any-some, any-of, all-each, all-of, filter-of, filter-in, filter-none, firstSome-in, firstSome-none, distinct-in, distinct-of}
 use Rattle.theory.specs.WordLaws.{sameAtom-eq, sameAtom-refl, sameLiteral-eq, sameLiteral-refl, eq-sameLiteral, negate-negate, same-or-negated}
 
 -- ── literals on the trail ──
@@ -122,11 +123,11 @@ clause-cases g l m =
 module _ (t : Trail) where
   notFalse-of : (c : Clause) (l : Literal) → l ∈ c → isFalse t l ≡ false → l ∈ notFalse t c
   unfolding notFalse
-  notFalse-of c l m h = distinct-of sameLiteral sameLiteral-eq _ l (keep-of _ c l m (cc))
+  notFalse-of c l m h = distinct-of sameLiteral sameLiteral-eq _ l (filter-of _ c l m (cc))
 
   notFalse-in : (c : Clause) (l : Literal) → l ∈ notFalse t c → (l ∈ c) × (isFalse t l ≡ false)
   unfolding notFalse
-  notFalse-in c l m = let (n, h) = keep-in _ c l (distinct-in sameLiteral _ l m) in (n, not-true (isFalse t l) h)
+  notFalse-in c l m = let (n, h) = filter-in _ c l (distinct-in sameLiteral _ l m) in (n, not-true (isFalse t l) h)
 
   -- every literal but this one is false
   abbrev pub Alone : Clause → Literal → Type 0
@@ -148,17 +149,17 @@ module _ (t : Trail) where
       empty (l ∷ ls) f = absurd (f l (List·Memᴰ·head refl))
 
   left-one : (c : Clause) (l : Literal) → l ∈ c → isFalse t l ≡ false → Alone c l → notFalse t c ≡ l ∷ []
-  unfolding notFalse distinct keep
-  left-one c l m h a = single (keep (λ (x : Literal). not (isFalse t x)) c) (keep-of _ c l m (cc)) only
+  unfolding notFalse distinct filter
+  left-one c l m h a = single (filter (λ (x : Literal). not (isFalse t x)) c) (filter-of _ c l m (cc)) only
     where
-      only : (x : Literal) → x ∈ keep (λ (y : Literal). not (isFalse t y)) c → x ≡ l
+      only : (x : Literal) → x ∈ filter (λ (y : Literal). not (isFalse t y)) c → x ≡ l
       only x n =
-          let (j, q) = keep-in (λ (y : Literal). not (isFalse t y)) c x n in
+          let (j, q) = filter-in (λ (y : Literal). not (isFalse t y)) c x n in
           elim (a x j) [ inl f ↦ true-and-false f (not-true (isFalse t x) q) | inr e ↦ e ]
 
       -- equal literals are written once
-      repeats : (ls : Clause) → ((x : Literal) → x ∈ ls → x ≡ l) → keep (λ (y : Literal). not (sameLiteral l y)) (distinct sameLiteral ls) ≡ []
-      repeats ls f = keep-none _ (distinct sameLiteral ls) (λ x n. ap not (eq-sameLiteral l x (sym (f x (distinct-in sameLiteral ls x n)))))
+      repeats : (ls : Clause) → ((x : Literal) → x ∈ ls → x ≡ l) → filter (λ (y : Literal). not (sameLiteral l y)) (distinct sameLiteral ls) ≡ []
+      repeats ls f = filter-none _ (distinct sameLiteral ls) (λ x n. ap not (eq-sameLiteral l x (sym (f x (distinct-in sameLiteral ls x n)))))
 
       single : (ls : Clause) → l ∈ ls → ((x : Literal) → x ∈ ls → x ≡ l) → distinct sameLiteral ls ≡ l ∷ []
       single [] n f = absurd (List·Memᴰ·not-nil n)
@@ -263,17 +264,17 @@ module _ (k : Task) where
   unfolding nextInstance fires loggedOf isEmpty
   fired s i e =
       record {
-        its = firstOf-in _ (k .instances) i e;
+        its = find-in _ (k .instances) i e;
         heads = all-each _ (i .heads) (and-left (all (isTrue (s .trail)) (i .heads)) _ passed);
-        taken = λ l q. (firstOf-in _ (i .body) l q, not-true (isTrue (s .trail) l) (firstOf-passes _ (i .body) l q));
+        taken = λ l q. (find-in _ (i .body) l q, not-true (isTrue (s .trail) l) (find-passes _ (i .body) l q));
         bodiless = λ q. elim (or-cases (isEmpty (i .body)) (any (λ (l : Literal). not (isTrue (s .trail) l)) (i .body)) (and-right (all (isTrue (s .trail)) (i .heads)) _ passed)) [
           | inl h ↦ empty (i .body) h
-          | inr h ↦ let (l, m, p) = any-some _ (i .body) h in true-and-false p (firstOf-none _ (i .body) q l m)
+          | inr h ↦ let (l, m, p) = any-some _ (i .body) h in true-and-false p (find-none _ (i .body) q l m)
         ];
       }
     where
       passed : fires (s .trail) i ≡ true
-      passed = firstOf-passes _ (k .instances) i e
+      passed = find-passes _ (k .instances) i e
 
       empty : (ls : List Literal) → isEmpty ls ≡ true → ls ≡ []
       empty [] h = refl
@@ -287,7 +288,7 @@ module _ (k : Task) where
       (λ q. true-and-false (cc (heads, empty q)) still, λ l n. by-test (isTrue (s .trail) l) (λ h. h) (λ h. true-and-false (fire l n h) still))
     where
       still : fires (s .trail) i ≡ false
-      still = firstOf-none _ (k .instances) e i m
+      still = find-none _ (k .instances) e i m
 
       heads : all (isTrue (s .trail)) (i .heads) ≡ true
       heads = all-of _ (i .heads) hs
@@ -303,11 +304,11 @@ module _ (k : Task) where
   -- the goal atom that is decided: unset, and all before it are set
   pub goal-first : (s : State) (a : Atom) → nextGoal k s ≡ some a → First (λ (x : Atom). isUnset (s .trail) (plain x)) (goalAtoms (k .clauses)) a
   unfolding nextGoal
-  goal-first s a e = firstOf-first _ (goalAtoms (k .clauses)) a e
+  goal-first s a e = find-first _ (goalAtoms (k .clauses)) a e
 
   pub goals-set : (s : State) → nextGoal k s ≡ none → (a : Atom) → a ∈ goalAtoms (k .clauses) → isUnset (s .trail) (plain a) ≡ false
   unfolding nextGoal
-  goals-set s e = firstOf-none _ (goalAtoms (k .clauses)) e
+  goals-set s e = find-none _ (goalAtoms (k .clauses)) e
 
 -- ── the table ──
 

@@ -13,7 +13,7 @@ use Rattle.definitions.specs.Instances.{Substitution, Binding, valueOf, termVal
 use Rattle.definitions.specs.Search.{isFalse, State, done, search}
 use Rattle.definitions.specs.declared.Verdict.{Verdict}
 use Rattle.theory.specs.Tests.{by-test}
-use Rattle.theory.specs.ListLaws.{keep-in}
+use Rattle.theory.specs.ListLaws.{filter-in}
 use Rattle.theory.specs.WordLaws.{negate-atom, goal-from}
 use Rattle.theory.specs.SearchLaws.{clause-cases}
 use Rattle.theory.specs.InstanceLaws.{substitution-sound, instance-filled}
@@ -39,7 +39,7 @@ unfolding instancesFrom ruleInstances fill
 number-limit n number [] i m = absurd (List·Memᴰ·not-nil m)
 number-limit n number (r ∷ rs) i m =
     elim (List·Memᴰ·append-cases (ruleInstances n number r) m) [
-      | inl j ↦ let (f, w, q) = Memᴰ·of-map (fill number r) (substitutions n (variables r)) (keep-in isProper _ i j .0) in
+      | inl j ↦ let (f, w, q) = Memᴰ·of-map (fill number r) (substitutions n (variables r)) (filter-in isProper _ i j .0) in
           let e : number ≡ i .rule = ap (λ (x : Instance). x .rule) q in
           omega arith
       | inr j ↦ omega (arith, number-limit n (suc number) rs i j)

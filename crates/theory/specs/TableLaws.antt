@@ -3,11 +3,11 @@ use mathlib.Core.Path.{_≡_, refl, sym, _∙_, ap, subst}
 use mathlib.Core.Logic.{inl, inr}
 use mathlib.Core.Bool.{Bool, not}
 use mathlib.Core.List.{List, [], _∷_, _++_, map, List·Memᴰ·head, List·Memᴰ·tail, List·Memᴰ·cases-cons, Memᴰ·cast, append-nil, append-assoc, map-append}
-use Rattle.definitions.specs.Lists.{_∈_, any, keep, distinct, joined}
+use Rattle.definitions.specs.Lists.{_∈_, any, filter, distinct, joined}
 use Rattle.definitions.specs.Words.{Atom, Literal, sameAtom, Clause, goalAtoms}
 use Rattle.definitions.specs.Search.{enter}
 use Rattle.theory.specs.Tests.{by-test, true-and-false}
-use Rattle.theory.specs.ListLaws.{any-some, any-of, any-none, keep-of, keep-in, keep-append, joined-append, Different, different-more, each-nil, each-cons, each-append}
+use Rattle.theory.specs.ListLaws.{any-some, any-of, any-none, filter-of, filter-in, filter-append, joined-append, Different, different-more, each-nil, each-cons, each-append}
 use Rattle.theory.specs.WordLaws.{sameAtom-eq, sameAtom-refl}
 
 -- atoms that enter one after another
@@ -44,24 +44,24 @@ enter-each P gs a each h =
 
 -- a new element of a list is the last of the different ones
 distinct-enter : (xs : List Atom) (a : Atom) → distinct sameAtom (xs ++ (a ∷ [])) ≡ enter (distinct sameAtom xs) a
-unfolding distinct enter any keep
+unfolding distinct enter any filter
 distinct-enter [] a = refl
 distinct-enter (x ∷ xs) a =
     let others : Atom → Bool = λ y. not (sameAtom x y) in
     let rest = distinct sameAtom xs in
     let ih : distinct sameAtom (xs ++ (a ∷ [])) ≡ enter rest a = distinct-enter xs a in
     by-test (sameAtom x a)
-    (λ e. let here = enter-known (x ∷ keep others rest) a (List·Memᴰ·head (sym (sameAtom-eq x a e))) in
+    (λ e. let here = enter-known (x ∷ filter others rest) a (List·Memᴰ·head (sym (sameAtom-eq x a e))) in
     by-member a rest
     (λ m. cc (ih, here, enter-known rest a m))
-    (λ out. cc (ih, here, enter-fresh rest a out, keep-append others rest (a ∷ []), append-nil (keep others rest))))
+    (λ out. cc (ih, here, enter-fresh rest a out, filter-append others rest (a ∷ []), append-nil (filter others rest))))
     (λ e. by-member a rest
-    (λ m. cc (ih, enter-known rest a m, enter-known (x ∷ keep others rest) a (List·Memᴰ·tail (keep-of others rest a m (cc)))))
-    (λ out. let fresh : a ∈ x ∷ keep others rest → ⊥ = λ m. elim (List·Memᴰ·cases-cons m) [
+    (λ m. cc (ih, enter-known rest a m, enter-known (x ∷ filter others rest) a (List·Memᴰ·tail (filter-of others rest a m (cc)))))
+    (λ out. let fresh : a ∈ x ∷ filter others rest → ⊥ = λ m. elim (List·Memᴰ·cases-cons m) [
       | inl q ↦ true-and-false (rw q (sameAtom-refl x)) e
-      | inr k ↦ out (keep-in others rest a k .0)
+      | inr k ↦ out (filter-in others rest a k .0)
     ] in
-    cc (ih, enter-fresh rest a out, enter-fresh (x ∷ keep others rest) a fresh, keep-append others rest (a ∷ []))))
+    cc (ih, enter-fresh rest a out, enter-fresh (x ∷ filter others rest) a fresh, filter-append others rest (a ∷ []))))
 
 distinct-enter-all : (xs ys : List Atom) → distinct sameAtom (xs ++ ys) ≡ enterAll (distinct sameAtom xs) ys
 unfolding enterAll

@@ -6,7 +6,7 @@ use lib.ListN.{length, getD, take, drop}
 use borrow.Author.Tests.{eq-eqb, ne-eqb}
 use Rattle.theory.specs.Tests.{by-test}
 use Rattle.encoding.specs.Values.{Value, trueValue, falseValue, isTrueValue, isFalseValue, literalValue}
-use Rattle.encoding.specs.ValueLaws.{is-true, not-true, is-false, not-false}
+use Rattle.encoding.specs.ValueLaws.{is-true, other-than-true, is-false, other-than-false}
 use Rattle.encoding.specs.ArrayLaws.{part-cons, part-nil}
 use Rattle.units.specs.Scan.{unsetToo, seenWith, seenFrom, look}
 use Rattle.units.specs.declared.Seen.{Seen}
@@ -20,12 +20,12 @@ module _ (seen : Seen) (w : ℕ) (v : Value) where
 
   pub with-true : (v ≡ falseValue → ⊥) → v ≡ trueValue → Open ≡ seenWith seen w v
   unfolding seenWith
-  with-true n e = cc (not-false v n, is-true v e)
+  with-true n e = cc (other-than-false v n, is-true v e)
 
   module _ (n : v ≡ falseValue → ⊥) (m : v ≡ trueValue → ⊥) where
     with-unset : seenWith seen w v ≡ unsetToo seen w
     unfolding seenWith
-    with-unset = cc (not-false v n, not-true v m)
+    with-unset = cc (other-than-false v n, other-than-true v m)
 
     pub with-first : seen ≡ AllFalse → One w ≡ seenWith seen w v
     unfolding unsetToo

@@ -5,17 +5,16 @@ use mathlib.Core.Bool.{Bool, true, false, not, _&&_}
 use mathlib.Core.List.{List}
 use native.Mathlib.Omega.{arith}
 use lib.ListN.{length, getD, take, drop}
-use borrow.Author.Tests.{lt-ltb, le-ltb}
+use borrow.Author.Tests.{lt-ltb, le-ltb, not-true, not-false}
 use Rattle.definitions.specs.Lists.{all}
-use Rattle.theory.specs.Tests.{not-true, not-false}
 use Rattle.encoding.specs.Values.{falseWord}
 use Rattle.encoding.specs.ArrayLaws.{part-cons, part-nil, getD-rising}
 use Rattle.units.specs.Scan.{look}
 use Rattle.units.specs.Units.{clauseAt, maySet, actAt, actFrom, ClausesFit}
 use Rattle.units.specs.declared.Seen.{Seen}
 use Rattle.units.specs.declared.Seen.the-variants.{AllFalse, One, Open}
-use Rattle.units.specs.declared.Act.{Act}
-use Rattle.units.specs.declared.Act.the-variants.{Conflict, Force, Nothing}
+use Rattle.units.specs.declared.UnitAct.{UnitAct}
+use Rattle.units.specs.declared.UnitAct.the-variants.{Conflict, Force, Nothing}
 
 -- ── the loop over words ──
 
@@ -110,8 +109,8 @@ module _ (values starts literals heads : List ℕ) (given goals : ℕ) where
   pub act-start : (n : ℕ) → actFrom values starts literals heads given goals 0 (n - 0) ≡ actFrom values starts literals heads given goals 0 n
   act-start n = let e : n - 0 ≡ n = omega arith in rw e
 
-  module _ (c n : ℕ) {x : Act} (left : actFrom values starts literals heads given goals c (n - c) ≡ x) where
-    module _ (less : c < n) {a : Act} (does : a ≡ actAt values starts literals heads given goals c) where
+  module _ (c n : ℕ) {x : UnitAct} (left : actFrom values starts literals heads given goals c (n - c) ≡ x) where
+    module _ (less : c < n) {a : UnitAct} (does : a ≡ actAt values starts literals heads given goals c) where
       pub act-turn : a ≡ Nothing → actFrom values starts literals heads given goals (c + 1) (n - (c + 1)) ≡ x
       unfolding actFrom
       act-turn e =

@@ -8,7 +8,7 @@ use Rattle.definitions.specs.Words.{Atom, negate, Clause}
 use Rattle.definitions.specs.Search.{Logged, clauseOf, Act, conflict, force}
 use Rattle.encoding.specs.Encoding.{literalWord, clauseWords}
 use Rattle.units.specs.Units.{clauseAt}
-use Rattle.units.specs.declared.Act.the-variants.{Conflict, Force, Nothing}
+use Rattle.units.specs.declared.UnitAct.the-variants.{Conflict, Force, Nothing}
 
 -- the goal clauses and then the log stand in the arrays, and the negated heads of a logged clause are its first words
 pub record ClausesStand (table : List Atom) (goals : List Clause) (log : List Logged) (starts literals heads : List ℕ) : Type 0 where
@@ -18,7 +18,7 @@ pub record ClausesStand (table : List Atom) (goals : List Clause) (log : List Lo
       → take (getD heads n 0) (clauseAt starts literals (length goals + n)) ≡ clauseWords table (map negate (g .instance .heads))
 
 -- what step A found, as a word
-unfoldable pub actWord : List Atom → Option Act → Rattle.units.specs.declared.Act.Act
+unfoldable pub actWord : List Atom → Option Act → Rattle.units.specs.declared.UnitAct.UnitAct
 actWord table none = Nothing
 actWord table (some conflict) = Conflict
 actWord table (some (force l)) = Force (literalWord table l)

@@ -6,11 +6,11 @@ use mathlib.Core.Option.{none, some}
 use mathlib.Core.List.{List, [], _∷_, _++_, append-assoc, List·Memᴰ·cases-cons, List·Memᴰ·not-nil, Memᴰ·append-left, Memᴰ·cast}
 use native.Mathlib.Omega.{arith}
 use lib.ListN.{length}
-use Rattle.definitions.specs.Lists.{_∈_, firstOf}
+use Rattle.definitions.specs.Lists.{_∈_, find}
 use Rattle.definitions.specs.Words.{Atom, plain, sameAtom}
 use Rattle.definitions.specs.Search.{Trail, isUnset}
 use Rattle.theory.specs.Tests.{by-test, apart, true-and-false, none≢some}
-use Rattle.theory.specs.ListLaws.{at-split, in-along, Different, firstOf-in, firstOf-passes}
+use Rattle.theory.specs.ListLaws.{at-split, in-along, Different, find-in, find-passes}
 use Rattle.theory.specs.WordLaws.{sameAtom-eq, sameAtom-refl}
 use Rattle.encoding.specs.PositionLaws.{position-inside, position-append, position-behind}
 use Rattle.encoding.specs.Encoding.{position}
@@ -33,8 +33,8 @@ module _ (t : Trail) (values : List ℕ) where
       let e : suc at + length before ≡ at + suc (length before) = omega arith in
       ap (unsetAt values) e ∙ h (b ∷ before) after a (ap (λ (x : List Atom). b ∷ x) q)
 
-  row-some : (at : ℕ) (goals : List Atom) → Row at goals → (a : Atom) → firstOf (λ (x : Atom). isUnset t (plain x)) goals ≡ some a → firstUnset values at (length goals) ≡ at + position goals a
-  unfolding firstOf firstUnset position
+  row-some : (at : ℕ) (goals : List Atom) → Row at goals → (a : Atom) → find (λ (x : Atom). isUnset t (plain x)) goals ≡ some a → firstUnset values at (length goals) ≡ at + position goals a
+  unfolding find firstUnset position
   row-some at [] h a q = none≢some q
   row-some at (b ∷ bs) h a q =
       let test = row-test at b bs h in
@@ -43,8 +43,8 @@ module _ (t : Trail) (values : List ℕ) where
       let here : position (b ∷ bs) a ≡ 0 = cc (sameAtom-refl a) in
       let found : firstUnset values at (length (b ∷ bs)) ≡ at = cc in
       omega (arith, found, here))
-      (λ e. let rest : firstOf (λ (x : Atom). isUnset t (plain x)) bs ≡ some a = cc in
-      let passes = firstOf-passes (λ (x : Atom). isUnset t (plain x)) bs a rest in
+      (λ e. let rest : find (λ (x : Atom). isUnset t (plain x)) bs ≡ some a = cc in
+      let passes = find-passes (λ (x : Atom). isUnset t (plain x)) bs a rest in
       let onward = row-some (suc at) bs (row-tail at b bs h) a rest in
       by-test (sameAtom b a)
       (λ f. true-and-false passes (ap (λ (x : Atom). isUnset t (plain x)) (sym (sameAtom-eq b a f)) ∙ e))
@@ -52,8 +52,8 @@ module _ (t : Trail) (values : List ℕ) where
       let passed : firstUnset values at (length (b ∷ bs)) ≡ firstUnset values (suc at) (length bs) = cc in
       omega (arith, passed, there, onward)))
 
-  row-none : (at : ℕ) (goals : List Atom) → Row at goals → firstOf (λ (x : Atom). isUnset t (plain x)) goals ≡ none → firstUnset values at (length goals) ≡ at + length goals
-  unfolding firstOf firstUnset
+  row-none : (at : ℕ) (goals : List Atom) → Row at goals → find (λ (x : Atom). isUnset t (plain x)) goals ≡ none → firstUnset values at (length goals) ≡ at + length goals
+  unfolding find firstUnset
   row-none at [] h q = omega arith
   row-none at (b ∷ bs) h q =
       let test = row-test at b bs h in
@@ -80,13 +80,13 @@ module _ (goals created : List Atom) (different : Different (goals ++ created)) 
       let e : 0 + length before ≡ position (goals ++ created) a = omega arith in
       ap (unsetAt values) e ∙ unset-at (goals ++ created) t values (s .valued) a (Memᴰ·append-left created m)
 
-  pub first-unset-some : (a : Atom) → firstOf (λ (x : Atom). isUnset t (plain x)) goals ≡ some a
+  pub first-unset-some : (a : Atom) → find (λ (x : Atom). isUnset t (plain x)) goals ≡ some a
       → (firstUnset values 0 (length goals) ≡ position (goals ++ created) a) × (position (goals ++ created) a < length goals)
   first-unset-some a h =
-      let m = firstOf-in (λ (x : Atom). isUnset t (plain x)) goals a h in
+      let m = find-in (λ (x : Atom). isUnset t (plain x)) goals a h in
       let e = row-some t values 0 goals goal-row a h in
       let k = position-append goals created a m in
       (omega arith, omega (arith, position-inside goals a m))
 
-  pub first-unset-none : firstOf (λ (x : Atom). isUnset t (plain x)) goals ≡ none → firstUnset values 0 (length goals) ≡ length goals
+  pub first-unset-none : find (λ (x : Atom). isUnset t (plain x)) goals ≡ none → firstUnset values 0 (length goals) ≡ length goals
   first-unset-none h = omega (arith, row-none t values 0 goals goal-row h)

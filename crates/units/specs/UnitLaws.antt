@@ -29,7 +29,7 @@ use Rattle.units.specs.ScanLaws.{SeenAs, heads-false, seen-as, not-all}
 use Rattle.units.specs.ClausesStand.{ClausesStand, actWord}
 use Rattle.units.specs.declared.Seen.{Seen}
 use Rattle.units.specs.declared.Seen.the-variants.{AllFalse, One, Open}
-use Rattle.units.specs.declared.Act.the-variants.{Nothing}
+use Rattle.units.specs.declared.UnitAct.the-variants.{Nothing}
 
 -- ── goal atoms and their words ──
 
@@ -76,7 +76,7 @@ module _ (table : List Atom) (t : Trail) (values : List ℕ) (consistent : Consi
 
 -- the first act of the clauses from c on, and of those behind them
 module _ {A : Type 0} (values starts literals heads : List ℕ) (given goals : ℕ) (table : List Atom) (f : A → Option Act) where
-  abbrev first-of : Option Act → Rattle.units.specs.declared.Act.Act → Rattle.units.specs.declared.Act.Act
+  abbrev first-of : Option Act → Rattle.units.specs.declared.UnitAct.UnitAct → Rattle.units.specs.declared.UnitAct.UnitAct
   first-of none b = b
   first-of (some a) b = actWord table (some a)
 

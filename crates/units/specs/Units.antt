@@ -8,8 +8,8 @@ use Rattle.definitions.specs.Lists.{all}
 use Rattle.encoding.specs.Values.{falseWord}
 use Rattle.units.specs.Scan.{look}
 use Rattle.units.specs.declared.Seen.the-variants.{AllFalse, One, Open}
-use Rattle.units.specs.declared.Act.{Act}
-use Rattle.units.specs.declared.Act.the-variants.{Conflict, Force, Nothing}
+use Rattle.units.specs.declared.UnitAct.{UnitAct}
+use Rattle.units.specs.declared.UnitAct.the-variants.{Conflict, Force, Nothing}
 
 -- the words of clause c
 unfoldable pub clauseAt : List ℕ → List ℕ → ℕ → List ℕ
@@ -22,7 +22,7 @@ maySet values starts literals heads goalClauses goals c w =
     || (not (ltb c goalClauses) && all (falseWord values) (take (getD heads (c - goalClauses) 0) (drop (getD starts c 0) literals)))
 
 -- what clause c asks for
-unfoldable pub actAt : List ℕ → List ℕ → List ℕ → List ℕ → ℕ → ℕ → ℕ → Act
+unfoldable pub actAt : List ℕ → List ℕ → List ℕ → List ℕ → ℕ → ℕ → ℕ → UnitAct
 actAt values starts literals heads goalClauses goals c =
     elim (look values (clauseAt starts literals c)) [
       | AllFalse ↦ Conflict
@@ -31,7 +31,7 @@ actAt values starts literals heads goalClauses goals c =
     ]
 
 -- the first act of so many clauses, from clause c on
-unfoldable pub actFrom : List ℕ → List ℕ → List ℕ → List ℕ → ℕ → ℕ → ℕ → ℕ → Act
+unfoldable pub actFrom : List ℕ → List ℕ → List ℕ → List ℕ → ℕ → ℕ → ℕ → ℕ → UnitAct
 actFrom values starts literals heads goalClauses goals c zero = Nothing
 actFrom values starts literals heads goalClauses goals c (suc n) =
     elim (actAt values starts literals heads goalClauses goals c) [

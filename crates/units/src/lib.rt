@@ -22,7 +22,7 @@ pub enum Seen {
 }
 
 // What step A comes to.
-pub enum Act {
+pub enum UnitAct {
     Conflict,
     Force(u16),
     Nothing,
@@ -81,7 +81,7 @@ fn act_at(
     given: usize,
     goals: usize,
     c: usize,
-) -> Act
+) -> UnitAct
     requires { ⌜ (goals ≤ 256) × ClausesFit (now starts) (now literals) (now heads) given (c + 1) ⌝ }
     ensures { λ r. ⌜ r ≡ actAt (now (values .entry)) (now (starts .entry)) (now (literals .entry)) (now (heads .entry)) given goals c ⌝ }
 {
@@ -89,14 +89,14 @@ fn act_at(
     let from = encoding::wide(starts[c]);
     let end = encoding::wide(starts[next]);
     match scan::look_at(values, literals, from, end) {
-        Seen::AllFalse => Act::Conflict,
+        Seen::AllFalse => UnitAct::Conflict,
         Seen::One(w) => {
             if may_set(values, starts, literals, heads, given, goals, c, w) {
-                return Act::Force(w);
+                return UnitAct::Force(w);
             }
-            Act::Nothing
+            UnitAct::Nothing
         }
-        Seen::Open => Act::Nothing,
+        Seen::Open => UnitAct::Nothing,
     }
 }
 
@@ -109,22 +109,22 @@ pub fn next_act(
     given: usize,
     goals: usize,
     clauses: usize,
-) -> Act
+) -> UnitAct
     requires { ⌜ (goals ≤ 256) × ClausesFit (now starts) (now literals) (now heads) given clauses ⌝ }
     ensures { λ r. ⌜ r ≡ actFrom (now (values .entry)) (now (starts .entry)) (now (literals .entry)) (now (heads .entry)) given goals 0 clauses ⌝ }
 {
     let mut c: usize = 0;
     while c < clauses {
         match act_at(values, starts, literals, heads, given, goals, c) {
-            Act::Conflict => {
-                return Act::Conflict;
+            UnitAct::Conflict => {
+                return UnitAct::Conflict;
             }
-            Act::Force(w) => {
-                return Act::Force(w);
+            UnitAct::Force(w) => {
+                return UnitAct::Force(w);
             }
-            Act::Nothing => {}
+            UnitAct::Nothing => {}
         }
         c += 1;
     }
-    Act::Nothing
+    UnitAct::Nothing
 }

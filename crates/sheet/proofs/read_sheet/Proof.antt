@@ -3,14 +3,14 @@ use Prim.Native.Nat.{_-_}
 use native.Mathlib.Omega.{arith}
 use lib.ListN.{length}
 use Rattle.encoding.specs.Encoding.{Arrays, arrays}
-use Rattle.sheet.proofs.Sheets.{read-long, read-empty, line-inside, Reached, reached-start, reached-end, Asks, asks-count, reached-ready, columns-stop, kind-stop, line-stop, reached-next}
+use Rattle.sheet.proofs.Sheets.{read-long, read-empty, line-inside, ReadUpTo, reached-start, reached-end, Asks, asks-count, reached-ready, columns-stop, kind-stop, line-stop, reached-next}
 use borrow.Author.Needs.{needs}
 use Rattle.sheet.proofs.read_sheet.Statement.{statement}
 use Rattle.sheet.proofs.read_sheet.Tie as tie
 
 abbrev Inv-loop : tie.InvT-loop
 Inv-loop sheet arities₀ rules₀ starts₀ literals₀ table₀ index₀ row₀ slots₀ s₀ before₀ from₀ line₀ arities rules starts literals table index row slots s before from line =
-    Reached sheet (arrays arities₀ rules₀ starts₀ literals₀ table₀ index₀) (arrays arities rules starts literals table index) s before from line
+    ReadUpTo sheet (arrays arities₀ rules₀ starts₀ literals₀ table₀ index₀) (arrays arities rules starts literals table index) s before from line
 
 abbrev μ-loop : tie.MeasureT-loop
 μ-loop sheet arities₀ rules₀ starts₀ literals₀ table₀ index₀ row₀ slots₀ s₀ before₀ from₀ line₀ arities rules starts literals table index row slots s before from line =
