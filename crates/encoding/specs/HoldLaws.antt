@@ -73,14 +73,6 @@ rules-length (r ∷ rs) = omega (arith, length-append (ruleWords r) (joined rule
 -- ── sizes ──
 
 module _ (p : Problem) {sizes : Sizes} (e : sizes ≡ sizesOf p) where
-  pub its-constants : sizes .constants ≡ p .constants
-  unfolding sizesOf
-  its-constants = ap (λ (x : Sizes). x .constants) e
-
-  pub its-rules : sizes .rules ≡ length (p .rules)
-  unfolding sizesOf
-  its-rules = ap (λ (x : Sizes). x .rules) e
-
   pub its-clauses : sizes .clauses ≡ length (p .clauses)
   unfolding sizesOf
   its-clauses = ap (λ (x : Sizes). x .clauses) e

@@ -15,8 +15,8 @@ abbrev pub Lent : Type 0
 Lent = Both Array Array
 
 -- how what is left stands to what was lent, and that it is made of it by a function
-abbrev pub Between : {A : Type 0} → (A → A → Type 0) → Both A A → Type 0
-Between R x = R (x .entry) (x .exit)
+abbrev pub Leaves : {A : Type 0} → (A → A → Type 0) → Both A A → Type 0
+Leaves R x = R (x .entry) (x .exit)
 
 abbrev pub Becomes : {A : Type 0} → (A → A) → Both A A → Type 0
 Becomes f x = x .exit ≡ f (x .entry)

@@ -10,7 +10,7 @@ ghost use lib.ListN.{drop};
 ghost use Rattle.definitions.specs.Questions.{read};
 ghost use Rattle.encoding.specs.Signs.{numbers};
 ghost use Rattle.encoding.specs.Encoding.{emptyIndex};
-ghost use Rattle.encoding.specs.Lent.{Between, lentArrays};
+ghost use Rattle.encoding.specs.Lent.{Leaves, lentArrays};
 ghost use Rattle.sheet.specs.LineReads.{Ready, LineHeld, SheetRead};
 use encoding::ATOMS;
 use encoding::CODES;
@@ -51,7 +51,7 @@ fn line_of_kind(
     index: &mut [u16; CODES],
 ) -> LineRead
     requires { ⌜ (n ≤ 34) × Ready s (now arities) (now index) ⌝ }
-    ensures { λ r. ⌜ Between (LineHeld kind (drop 1 (numbers n (now (row .entry)))) r s) (lentArrays arities rules starts literals table index) ⌝ }
+    ensures { λ r. ⌜ Leaves (LineHeld kind (drop 1 (numbers n (now (row .entry)))) r s) (lentArrays arities rules starts literals table index) ⌝ }
 {
     if kind == 1 {
         return lines::constants_line(row, n, s);
@@ -77,7 +77,7 @@ pub fn read_sheet(
     index: &mut [u16; CODES],
 ) -> Read
     requires { ⌜ now index ≡ emptyIndex ⌝ }
-    ensures { λ r. ⌜ Between (SheetRead (read (now (sheet .entry))) r) (lentArrays arities rules starts literals table index) ⌝ }
+    ensures { λ r. ⌜ Leaves (SheetRead (read (now (sheet .entry))) r) (lentArrays arities rules starts literals table index) ⌝ }
 {
     if SHEET_BYTES < sheet.len() {
         return Read::Refused(Refusal { number: 2, line: 0 });
