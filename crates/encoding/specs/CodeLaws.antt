@@ -7,6 +7,7 @@ use mathlib.Core.List.{List, [], _∷_, _++_, List·Memᴰ·head, List·Memᴰ·
 use native.Mathlib.Omega.{arith}
 use lib.ListN.{length, getD, set, length-set, length-replicate}
 use lib.Seq.{ext-getD, getD-set-same, getD-set-other}
+use Rattle.encoding.specs.Lengths.{atomCodes}
 use Rattle.definitions.specs.Lists.{_∈_}
 use Rattle.definitions.specs.Words.{Atom, sameAtom}
 use Rattle.theory.specs.Tests.{by-test, true-and-false}
@@ -53,7 +54,7 @@ module _ (constants : ℕ) (arities : List ℕ) (limits : CodeLimits constants a
   unfolding place
   place-small a h i = omega (arith, argument-at a h i)
 
-  pub code-small : (a : Atom) → AtomLimits constants arities a → atomCode a < 524288
+  pub code-small : (a : Atom) → AtomLimits constants arities a → atomCode a < atomCodes
   unfolding atomCode codeOf
   code-small a h =
       omega (arith, h .symbol, h .declared, limits .symbols, place-small a h 0, place-small a h 1, place-small a h 2)
@@ -108,11 +109,11 @@ index-more n (g ∷ gs) a index =
 
 pub empty-at : (k : ℕ) → getD emptyIndex k 0 ≡ 0
 unfolding emptyIndex
-empty-at k = getD-zeros 524288 k
+empty-at k = getD-zeros atomCodes k
 
-empty-size : length emptyIndex ≡ 524288
+empty-size : length emptyIndex ≡ atomCodes
 unfolding emptyIndex
-empty-size = length-replicate {A = ℕ} 524288 0
+empty-size = length-replicate {A = ℕ} atomCodes 0
 
 -- the index names only atoms of the table
 pub index-within : (gs : List Atom) (code : ℕ) → getD (indexFrom 0 gs emptyIndex) code 0 ≤ length gs
@@ -132,7 +133,7 @@ module _ (constants : ℕ) (arities : List ℕ) (limits : CodeLimits constants a
       ∙ getD-set-other index (atomCode g) (atomCode a) (suc n) 0 differs
 
   index-inside :
-      (n : ℕ) (gs : List Atom) (index : List ℕ) → ((g : Atom) → g ∈ gs → AtomLimits constants arities g) → Different gs → length index ≡ 524288
+      (n : ℕ) (gs : List Atom) (index : List ℕ) → ((g : Atom) → g ∈ gs → AtomLimits constants arities g) → Different gs → length index ≡ atomCodes
       → (a : Atom) → a ∈ gs → getD (indexFrom n gs index) (atomCode a) 0 ≡ suc (n + position gs a)
   unfolding indexFrom
   index-inside n [] index l d size a m = absurd (List·Memᴰ·not-nil m)

@@ -4,6 +4,7 @@ use mathlib.Core.Bool.{true, false, not}
 use mathlib.Core.List.{List, [], _∷_, map}
 use lib.ListN.{length, getD, set, replicate}
 use lib.Seq.{sets}
+use Rattle.encoding.specs.Lengths.{atomCodes}
 use Rattle.definitions.specs.Lists.{joined}
 use Rattle.definitions.specs.Words.{Atom, Literal, sameAtom, Clause, Problem, goalAtoms}
 use Rattle.encoding.specs.Signs.{wordOf}
@@ -44,7 +45,7 @@ indexFrom at [] index = index
 indexFrom at (a ∷ as′) index = indexFrom (suc at) as′ (set index (atomCode a) (suc at))
 
 unfoldable pub emptyIndex : List ℕ
-emptyIndex = replicate 524288 0
+emptyIndex = replicate atomCodes 0
 
 unfoldable pub sizesOf : Problem → Sizes
 sizesOf p =

@@ -5,6 +5,7 @@ use mathlib.Core.List.{List, [], _∷_, _++_, map}
 use native.Mathlib.Omega.{arith}
 use lib.ListN.{length, replicate, length-append, length-map}
 use lib.Seq.{length-take-le}
+use Rattle.encoding.specs.Lengths.{atomCodes}
 use Rattle.definitions.specs.Lists.{_∈_, joined}
 use Rattle.definitions.specs.Words.{Atom, Literal, plain, Clause, Rule, Problem, goalAtoms}
 use Rattle.theory.specs.WordLaws.{goal-from}
@@ -38,7 +39,7 @@ plain-limits p a h = literal-atom p (plain a) h
 
 -- the codes of a table are codes of the problem
 pub codes-limited : (p : Problem) → Searchable p → (table : List Atom) → ((a : Atom) → a ∈ table → LiteralLimits p (plain a))
-    → (a : Atom) → a ∈ table → atomCode a < 524288
+    → (a : Atom) → a ∈ table → atomCode a < atomCodes
 codes-limited p h table limited a m = code-small (p .constants) (p .arities) (searchable-encodable p h .codes) a (plain-limits p a (limited a m))
 
 pub goal-limits : (p : Problem) → Encodable p → (a : Atom) → a ∈ goalAtoms (p .clauses) → AtomLimits (p .constants) (p .arities) a

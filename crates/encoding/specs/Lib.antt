@@ -1,3 +1,4 @@
+pub mod Lengths
 pub mod CountLaws
 pub mod ArrayLaws
 pub mod Signs

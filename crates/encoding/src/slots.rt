@@ -1,13 +1,14 @@
 // Literals as slots of four words: the code of an atom, and the terms of slots.
 ghost use mathlib.Core.Path.{_≡_};
 ghost use Prim.Native.Nat.{_<_};
+ghost use Rattle.encoding.specs.Lengths.{atomCodes};
 ghost use Rattle.encoding.specs.Encoding.{codeOf};
 ghost use Rattle.encoding.specs.Slots.{hasTerm};
 
 // The code of an atom: its symbol and three constants, each from 0.
 pub fn atom_code(symbol: usize, a: usize, b: usize, c: usize) -> usize
     requires { ⌜ (symbol < 16) × (a < 32) × (b < 32) × (c < 32) ⌝ }
-    ensures { λ r. ⌜ (r ≡ codeOf symbol a b c) × (r < 524288) ⌝ }
+    ensures { λ r. ⌜ (r ≡ codeOf symbol a b c) × (r < atomCodes) ⌝ }
 {
     ((symbol * 32 + a) * 32 + b) * 32 + c
 }

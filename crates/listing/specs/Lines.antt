@@ -4,6 +4,7 @@ use mathlib.Core.Bool.{Bool, true, false}
 use mathlib.Core.List.{List, [], _∷_, _++_, map}
 use lib.Dec.{eqb}
 use lib.ListN.{length, getD}
+use Rattle.encoding.specs.Lengths.{literalArray}
 use Rattle.definitions.specs.Lists.{joined, upFrom}
 use Rattle.definitions.specs.Sheet.{Number, plus}
 use Rattle.definitions.specs.Listing.{fieldBytes, lineBytes, narrow, wide, answerNumber}
@@ -85,5 +86,5 @@ pub record ClausesListable (given clauses : ℕ) (starts literals : List ℕ) : 
   pub few : clauses ≤ given + 512
   pub limit : clauses ≤ 577
   pub rising : (c : ℕ) → c < clauses → getD starts c 0 ≤ getD starts (c + 1) 0
-  pub inside : (c : ℕ) → c ≤ clauses → getD starts c 0 ≤ 2568
+  pub inside : (c : ℕ) → c ≤ clauses → getD starts c 0 ≤ literalArray
   pub words : (i : ℕ) → i < getD starts clauses 0 → getD literals i 0 < 512

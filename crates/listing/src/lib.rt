@@ -5,6 +5,7 @@ ghost use mathlib.Core.Path.{_≡_};
 ghost use mathlib.Core.Bool.{true};
 ghost use mathlib.Core.List.{[], _∷_, map};
 ghost use lib.ListN.{length, getD, take, drop};
+ghost use Rattle.encoding.specs.Lengths.{literalArray};
 ghost use Rattle.definitions.specs.Lists.{joined, upFrom};
 ghost use Rattle.definitions.specs.Words.{Problem};
 ghost use Rattle.definitions.specs.Search.{State};
@@ -105,7 +106,7 @@ fn put_literals(
     from: usize,
     end: usize,
 ) -> usize
-    requires { ⌜ (from ≤ end) × (end ≤ 2568) × ((i : ℕ) → i < end → getD (now literals) i 0 < 512)
+    requires { ⌜ (from ≤ end) × (end ≤ literalArray) × ((i : ℕ) → i < end → getD (now literals) i 0 < 512)
         × (at + length (columnBytes (joined (wordNumbers (now arities) (now table)) (take (end - from) (drop from (now literals))))) ≤ length (now room)) ⌝ }
     ensures { λ r. ⌜ Put (now (room .entry)) at (columnBytes (joined (wordNumbers (now (arities .entry)) (now (table .entry))) (take (end - from) (drop from (now (literals .entry)))))) r (now (room .exit)) ⌝ }
 {

@@ -4,6 +4,7 @@ use mathlib.Core.Path.{_≡_, refl, sym, ap, subst, _∙_}
 use mathlib.Core.List.{List, map}
 use lib.ListN.{length, replicate}
 use lib.Seq.{sets, length-sets}
+use Rattle.encoding.specs.Lengths.{literalArray, ruleArray, startArray}
 use Rattle.definitions.specs.Lists.{joined}
 use Rattle.definitions.specs.Words.{Problem, goalAtoms}
 use Rattle.definitions.specs.Instances.{taskOf}
@@ -38,18 +39,18 @@ module _ (p : Problem) (sizes : Sizes) (budget : ℕ) (rules starts literals hea
   abbrev lengths : Lengths rules m
   lengths = loaded .lengths
 
-  before-rules : length (loaded .before .rules) ≡ 704
+  before-rules : length (loaded .before .rules) ≡ ruleArray
   unfolding hold
-  before-rules = stored-length (loaded .before .rules) (joined ruleWords (p .rules)) rules 704 (loaded .itsRules) (lengths .ofRules)
+  before-rules = stored-length (loaded .before .rules) (joined ruleWords (p .rules)) rules ruleArray (loaded .itsRules) (lengths .ofRules)
 
-  before-starts : length (loaded .before .starts) ≡ 578
+  before-starts : length (loaded .before .starts) ≡ startArray
   unfolding hold
-  before-starts = stored-length (loaded .before .starts) (startsFrom 0 (p .clauses)) starts 578 (loaded .itsStarts) (lengths .ofStarts)
+  before-starts = stored-length (loaded .before .starts) (startsFrom 0 (p .clauses)) starts startArray (loaded .itsStarts) (lengths .ofStarts)
 
-  before-literals : length (loaded .before .literals) ≡ 2568
+  before-literals : length (loaded .before .literals) ≡ literalArray
   unfolding hold
   before-literals =
-      stored-length (loaded .before .literals) (joined (clauseWords (goalAtoms (p .clauses))) (p .clauses)) literals 2568 (loaded .itsLiterals) (lengths .ofLiterals)
+      stored-length (loaded .before .literals) (joined (clauseWords (goalAtoms (p .clauses))) (p .clauses)) literals literalArray (loaded .itsLiterals) (lengths .ofLiterals)
 
   before-table : length (loaded .before .table) ≡ 256
   unfolding hold

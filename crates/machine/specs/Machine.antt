@@ -4,6 +4,7 @@ use mathlib.Core.Path.{_≡_}
 use mathlib.Core.List.{List}
 use lib.ListN.{length, take}
 use denote.Triple.Both.{Both}
+use Rattle.encoding.specs.Lengths.{literalArray, ruleArray, startArray}
 use Rattle.definitions.specs.Lists.{joined}
 use Rattle.definitions.specs.Words.{Problem}
 use Rattle.definitions.specs.Instances.{taskOf}
@@ -120,9 +121,9 @@ Ends ends start r m = ends (m .entry) start r (m .exit)
 
 -- the arrays' lengths
 pub record Lengths (rules : List ℕ) (m : Machine) : Type 0 where
-  pub ofRules : length rules ≡ 704
-  pub ofStarts : length (m .store .starts) ≡ 578
-  pub ofLiterals : length (m .store .literals) ≡ 2568
+  pub ofRules : length rules ≡ ruleArray
+  pub ofStarts : length (m .store .starts) ≡ startArray
+  pub ofLiterals : length (m .store .literals) ≡ literalArray
   pub ofHeads : length (m .store .heads) ≡ 512
   pub ofNumbers : length (m .store .numbers) ≡ 512
   pub ofTable : length (m .table .codes) ≡ 256

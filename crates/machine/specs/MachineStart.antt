@@ -5,6 +5,7 @@ use mathlib.Core.Path.{_≡_, refl, _∙_, ap}
 use mathlib.Core.List.{List}
 use native.Mathlib.Omega.{arith}
 use lib.ListN.{length}
+use Rattle.encoding.specs.Lengths.{literalArray, ruleArray, startArray}
 use Rattle.definitions.specs.Lists.{joined}
 use Rattle.definitions.specs.Words.{Problem, goalAtoms}
 use Rattle.definitions.specs.Instances.{taskOf}
@@ -25,7 +26,7 @@ use Rattle.log.specs.LogStart.{start-holds}
 use Rattle.machine.specs.Machine.{machine, Stands, RulesStand}
 
 -- the rules stand first in their array
-pub rules-stand : (p : Problem) → Searchable p → (before : Arrays) → length (before .rules) ≡ 704 → RulesStand p (hold p before .rules)
+pub rules-stand : (p : Problem) → Searchable p → (before : Arrays) → length (before .rules) ≡ ruleArray → RulesStand p (hold p before .rules)
 unfolding hold
 rules-stand p limits before size =
     let words = joined ruleWords (p .rules) in
@@ -41,7 +42,7 @@ unfolding taskOf
 goals-sound p limits = start-sound (taskOf p) (omega (arith, limits .goals))
 
 pub machine-start : (p : Problem) → Searchable p → (budget : ℕ) (before : Arrays) → before .index ≡ emptyIndex
-    → length (before .starts) ≡ 578 → length (before .literals) ≡ 2568 → length (before .table) ≡ 256
+    → length (before .starts) ≡ startArray → length (before .literals) ≡ literalArray → length (before .table) ≡ 256
     → (heads numbers values trail marks : List ℕ) → length heads ≡ 512 → length numbers ≡ 512
     → values ≡ noValues → length trail ≡ 256 → length marks ≡ 256
     → Stands p budget (start (taskOf p))

@@ -12,6 +12,7 @@ use Rattle.definitions.specs.Lists.{_∈_}
 use Rattle.definitions.specs.Words.{Atom, Literal, plain, Problem}
 use Rattle.definitions.specs.Instances.{taskOf}
 use Rattle.definitions.specs.Search.{State, Act, conflict, force, nextGoal, backtrack}
+use Rattle.theory.specs.Limits.{few-literals}
 use Rattle.theory.specs.Tests.{by-option, apart, and-left}
 use Rattle.theory.specs.ListLaws.{all-each}
 use Rattle.theory.specs.Ends.{trail-length}
@@ -130,7 +131,7 @@ module _ (budget : ℕ) (rules : List ℕ) (sizes : Sizes) (m : Machine) (run : 
       behind = omega (arith, its-clauses p (running .counts), h .log .clauses);
       few = omega (arith, its-clauses p (running .counts), h .log .clauses, h .log .logFits);
       atoms = omega (arith, h .log .atoms, h .log .tableFits);
-      room = omega (arith, h .log .used, h .log .logFits, running .rulesStand .limits .literals);
+      room = λ less. omega (arith, h .log .used, h .log .clauses, its-clauses p (running .counts), few-literals p (running .rulesStand .limits));
       index = index-small;
       entered = fires-entered (m .trail .values) (m .table .index) rules (sizes .constants) r f (walk-fires (m .trail .values) (m .table .index) rules (sizes .constants) 0 (sizes .rules) r f g);
     },

@@ -6,6 +6,7 @@ use mathlib.Core.List.{List, [], _∷_, _++_}
 use native.Mathlib.Omega.{arith}
 use lib.ListN.{length, length-append}
 use lib.Seq.{sets}
+use Rattle.definitions.specs.Bounds.{roomBytes}
 use Rattle.definitions.specs.Lists.{joined}
 use Rattle.definitions.specs.Sheet.{plus}
 use Rattle.definitions.specs.Listing.{fieldBytes, lineBytes, narrow, refusalLine}
@@ -52,7 +53,7 @@ refused-printed (refusal q n) ends f e = (ap (λ (x : Refusal). refusalLine (x .
 refused-printed (ended v s) ends f e = apart (cc)
 refused-printed unended ends f e = absurd (ends refl)
 
-module _ (sheet : List ℕ) (budget : ℕ) (room : List ℕ) (large : 45056 ≤ length room) (r : Solved) (after : List ℕ)
+module _ (sheet : List ℕ) (budget : ℕ) (room : List ℕ) (large : roomBytes ≤ length room) (r : Solved) (after : List ℕ)
     (solved : SolvedAs (result sheet budget room) room r after) where
   -- the room and the bytes printed into it
   abbrev pub Prints : ℕ → List ℕ → Type 0

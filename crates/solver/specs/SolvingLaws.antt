@@ -8,6 +8,7 @@ use lib.Dec.{leb}
 use lib.ListN.{length, take, drop, length-append}
 use lib.Seq.{take-append-seam}
 use borrow.Author.Tests.{leb-true, leb-false}
+use Rattle.definitions.specs.Bounds.{roomBytes}
 use Rattle.definitions.specs.Words.{Problem}
 use Rattle.definitions.specs.Questions.{refused, accepted, read}
 use Rattle.definitions.specs.Search.{State}
@@ -54,9 +55,9 @@ module _ (p : Problem) (budget : ℕ) (s : State) (ended : Ended) (given : ℕ) 
 -- ── the call ──
 
 -- where no question about it is answered no, the room is large enough
-pub lent-room : (room number : ℕ) → ShortIs (firstShort (lendings room)) number → number ≡ 0 → 45056 ≤ room
+pub lent-room : (room number : ℕ) → ShortIs (firstShort (lendings room)) number → number ≡ 0 → roomBytes ≤ room
 lent-room room number short none-short =
-    by-test (leb 45056 room) (λ e. leb-true 45056 room e) (λ e. let h = rw (short-room room (leb-false 45056 room e)) at short in absurd (omega (arith, h .0)))
+    by-test (leb roomBytes room) (λ e. leb-true roomBytes room e) (λ e. let h = rw (short-room room (leb-false roomBytes room e)) at short in absurd (omega (arith, h .0)))
 
 module _ (sheet : List ℕ) (budget : ℕ) (room : List ℕ) where
   -- a refusal writes nothing
@@ -67,7 +68,7 @@ module _ (sheet : List ℕ) (budget : ℕ) (room : List ℕ) where
 
   module _ (p : Problem) (reads : read sheet ≡ accepted p) (ended : Ended) (given : ℕ) (arities starts literals numbers table values : List ℕ)
       (end : AtEnd p budget ended given arities starts literals numbers table values) where
-    pub listing-in-room : budget < 2 ^ 32 → 45056 ≤ length room → length (listing (ended .verdict) (end .state)) ≤ length room
+    pub listing-in-room : budget < 2 ^ 32 → roomBytes ≤ length room → length (listing (ended .verdict) (end .state)) ≤ length room
     listing-in-room small large = omega (arith, listing-at-most sheet p reads budget (ended .verdict) (end .state) (end .comes) small)
 
     pub end-solved : (r : Solved) (after : List ℕ) → SolvedAs (call.ended (ended .verdict) (end .state)) room r after → SolvedAs (answered (read sheet) budget) room r after
@@ -85,7 +86,7 @@ module _ (sheet : List ℕ) (budget : ℕ) (room : List ℕ) where
       from none e h = absurd (some-number h)
       from (some q) e h = rw (e, result, h .0) (record { answer = refl; size = refl; stored = refl })
 
-  pub enough-solved : 45056 ≤ length room → (r : Solved) (after : List ℕ) → SolvedAs (answered (read sheet) budget) room r after → SolvedAs (result sheet budget room) room r after
+  pub enough-solved : roomBytes ≤ length room → (r : Solved) (after : List ℕ) → SolvedAs (answered (read sheet) budget) room r after → SolvedAs (result sheet budget room) room r after
   enough-solved large r after h = rw (large-room sheet budget room large) h
 
 -- what is written at the front of a room lies in it

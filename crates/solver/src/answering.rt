@@ -1,6 +1,7 @@
 // A sheet that is lent a room large enough: read and searched, and then listed.
 ghost use Prim.Native.Nat.{ℕ, _≤_};
 ghost use lib.ListN.{length};
+ghost use Rattle.definitions.specs.Bounds.{roomBytes};
 ghost use Rattle.definitions.specs.Words.{Problem};
 ghost use Rattle.definitions.specs.Questions.{read};
 ghost use Rattle.definitions.specs.Search.{State};
@@ -64,7 +65,7 @@ fn listed(
 
 // The call with a room that is large enough.
 pub fn answered(sheet: &[u8], budget: u32, room: &mut [u8]) -> Solved
-    requires { ⌜ 45056 ≤ length (now room) ⌝ }
+    requires { ⌜ roomBytes ≤ length (now room) ⌝ }
     ensures { λ r. ⌜ SolvedAs (answeredOf (read (now (sheet .entry))) budget) (now (room .entry)) r (now (room .exit)) ⌝ }
 {
     let mut arities = [0u8; SYMBOLS];

@@ -6,6 +6,7 @@ use mathlib.Core.List.{List, []}
 use lib.Dec.{leb}
 use lib.ListN.{length, take, drop}
 use borrow.Author.Tests.{le-leb, lt-leb, leb-true, leb-false}
+use Rattle.definitions.specs.Bounds.{roomBytes}
 use Rattle.definitions.specs.Words.{Problem}
 use Rattle.definitions.specs.Sheet.{number, plus, decimal}
 use Rattle.definitions.specs.Questions.{Reading, refused, accepted, read}
@@ -19,21 +20,21 @@ use Rattle.theory.specs.ListingLaws.{listed-answer}
 use Rattle.theory.specs.Theorems.{search-comes-to-an-answer}
 
 -- the questions about what is lent
-pub short-room : (room : ℕ) → room < 45056 → firstShort (lendings room) ≡ some 1
+pub short-room : (room : ℕ) → room < roomBytes → firstShort (lendings room) ≡ some 1
 unfolding lendings firstShort
-short-room room h = rw (lt-leb 45056 room h, firstShort)
+short-room room h = rw (lt-leb roomBytes room h, firstShort)
 
-pub enough-room : (room : ℕ) → 45056 ≤ room → firstShort (lendings room) ≡ none
+pub enough-room : (room : ℕ) → roomBytes ≤ room → firstShort (lendings room) ≡ none
 unfolding lendings firstShort
-enough-room room h = rw (le-leb 45056 room h, firstShort)
+enough-room room h = rw (le-leb roomBytes room h, firstShort)
 
 module _ (sheet : List ℕ) (budget : ℕ) (room : List ℕ) where
   -- question 1
-  pub small-room : length room < 45056 → result sheet budget room ≡ refusal 1 0
+  pub small-room : length room < roomBytes → result sheet budget room ≡ refusal 1 0
   unfolding result
   small-room h = rw (short-room (length room) h, result)
 
-  pub large-room : 45056 ≤ length room → result sheet budget room ≡ answered (read sheet) budget
+  pub large-room : roomBytes ≤ length room → result sheet budget room ≡ answered (read sheet) budget
   unfolding result
   large-room h = rw (enough-room (length room) h, result)
 
@@ -53,14 +54,14 @@ module _ (sheet : List ℕ) (budget : ℕ) (room : List ℕ) where
   pub call-comes : Comes sheet budget room
   unfolding answered searched
   call-comes =
-      by-test (leb 45056 (length room))
-      (λ e. from-reading (leb-true 45056 (length room) e) (read sheet) refl)
-      (λ e. let h = leb-false 45056 (length room) e in tooSmall h (refused-with 1 0 (small-room h)))
+      by-test (leb roomBytes (length room))
+      (λ e. from-reading (leb-true roomBytes (length room) e) (read sheet) refl)
+      (λ e. let h = leb-false roomBytes (length room) e in tooSmall h (refused-with 1 0 (small-room h)))
     where
-      along : (r : Reading) → read sheet ≡ r → 45056 ≤ length room → result sheet budget room ≡ answered r budget
+      along : (r : Reading) → read sheet ≡ r → roomBytes ≤ length room → result sheet budget room ≡ answered r budget
       along r e large = large-room large ∙ ap (λ (x : Reading). answered x budget) e
 
-      from-reading : 45056 ≤ length room → (r : Reading) → read sheet ≡ r → Comes sheet budget room
+      from-reading : roomBytes ≤ length room → (r : Reading) → read sheet ≡ r → Comes sheet budget room
       from-reading large (refused q n) e = improper large q n e (refused-with q n (along (refused q n) e large))
       from-reading large (accepted p) e =
           let ends = search-comes-to-an-answer sheet p e budget in

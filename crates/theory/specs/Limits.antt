@@ -8,12 +8,13 @@ use native.Mathlib.Omega.{arith}
 use lib.Dec.{eqb, leb, ltb}
 use lib.ListN.{length, getD, length-append}
 use borrow.Author.Tests.{eqb-true, eqb-false, leb-true, ltb-true, eq-eqb, ne-eqb}
+use Rattle.definitions.specs.Bounds.{mostRules, mostClauses}
 use Rattle.definitions.specs.Lists.{_∈_, isEmpty, distinct, joined}
 use Rattle.definitions.specs.Words.{Literal, Clause, Term, variable, constant, Pattern, Rule, Problem, goalAtoms}
 use Rattle.definitions.specs.Sheet.{Line, putByte, lines, Number}
 use Rattle.definitions.specs.Questions.{Asked, no, yes, _>>=_, _>>_, ask, Walk, within, count, kindOf, ruleArgument, clauseArgument, arguments, literal, literals, patternOf, literalOf, patterns, clauseLiterals, restricted, constantsAsked, arityAsked, ruleCounts, ruleBehind, ruleAsked, clauseCount, clauseBehind, clauseAsked, withConstants, withSymbol, withRule, withClause, constantsLine, symbolLine, ruleLine, clauseLine, lineOfKind, columnsAsked, Draft, readLine, accepted, readLines, emptyDraft, read}
 use Rattle.theory.specs.Tests.{by-test, apart, and-left, and-right}
-use Rattle.theory.specs.TableLaws.{enterAll, enter-known, joined-more, atomsOf, goal-atoms-more}
+use Rattle.theory.specs.TableLaws.{enterAll, enter-known, atomsOf, goal-atoms-more}
 use Rattle.theory.specs.AskedLaws.{by-asked}
 use Rattle.theory.specs.ListLaws.{Each, each-nil, each-cons, each-append, joined-length}
 
@@ -49,29 +50,31 @@ pub record ClauseLimits (p : Problem) (c : Clause) : Type 0 where
   pub literals : length c ≤ 8
   pub eachLiteral : (l : Literal) → l ∈ c → LiteralLimits p l
 
-pub record Limits (p : Problem) : Type 0 where
+-- the limits of a problem that has at most so many rules and clauses
+pub record Within (ruleLimit clauseLimit : ℕ) (p : Problem) : Type 0 where
   pub someConstant : 1 ≤ p .constants
   pub constants : p .constants ≤ 32
   pub symbols : length (p .arities) ≤ 16
   pub eachArity : (n : ℕ) → n ∈ p .arities → n ≤ 3
-  pub rules : length (p .rules) ≤ 32
+  pub rules : length (p .rules) ≤ ruleLimit
   pub eachRule : (r : Rule) → r ∈ p .rules → RuleLimits p r
-  pub clauses : length (p .clauses) ≤ 64
+  pub clauses : length (p .clauses) ≤ clauseLimit
   pub eachClause : (c : Clause) → c ∈ p .clauses → ClauseLimits p c
   pub goals : length (goalAtoms (p .clauses)) ≤ 64
 
--- what the search asks of a problem: the same limits, with room for one clause more than a sheet has
-pub record Searchable (p : Problem) : Type 0 where
-  pub someConstant : 1 ≤ p .constants
-  pub constants : p .constants ≤ 32
-  pub symbols : length (p .arities) ≤ 16
-  pub eachArity : (n : ℕ) → n ∈ p .arities → n ≤ 3
-  pub rules : length (p .rules) ≤ 32
-  pub eachRule : (r : Rule) → r ∈ p .rules → RuleLimits p r
-  pub clauses : length (p .clauses) ≤ 65
-  pub eachClause : (c : Clause) → c ∈ p .clauses → ClauseLimits p c
-  pub literals : length (joined (λ (c : Clause). c) (p .clauses)) ≤ 516
-  pub goals : length (goalAtoms (p .clauses)) ≤ 64
+-- those of a sheet's problem
+abbrev pub Limits : Problem → Type 0
+Limits p = Within mostRules mostClauses p
+
+-- what the search asks of one: room for one clause more than a sheet has
+abbrev pub searchRules : ℕ
+searchRules = mostRules
+
+abbrev pub searchClauses : ℕ
+searchClauses = 65
+
+abbrev pub Searchable : Problem → Type 0
+Searchable p = Within searchRules searchClauses p
 
 -- an accepted sheet's problem is one
 pub limits-searchable : (p : Problem) → Limits p → Searchable p
@@ -85,9 +88,14 @@ limits-searchable p h =
       eachRule = h .eachRule;
       clauses = omega (arith, h .clauses);
       eachClause = h .eachClause;
-      literals = let few = joined-length (λ (c : Clause). c) 8 (p .clauses) (λ c m. h .eachClause c m .literals) in omega (arith, few, h .clauses);
       goals = h .goals;
     }
+
+-- eight literals a clause
+pub few-literals : (p : Problem) → Searchable p → length (joined (λ (c : Clause). c) (p .clauses)) ≤ 520
+few-literals p h =
+    let few = joined-length (λ (c : Clause). c) 8 (p .clauses) (λ c m. h .eachClause c m .literals) in
+    omega (arith, few, h .clauses)
 
 -- an arity is at most 3; where no symbol is declared, 0 stands for it
 pub arities-limit : (l : List ℕ) → Each (λ k. k ≤ 3) l → (n : ℕ) → getD l n 0 ≤ 3
@@ -423,14 +431,8 @@ one-more-searchable p h l its goal =
       eachRule = λ r m. rule-beside p (p .rules) cs (s .eachRule r m);
       clauses = omega (arith, length-append (p .clauses) ((l ∷ []) ∷ []), h .clauses);
       eachClause = λ c m. clause-beside p (p .rules) cs (each-more (ClauseLimits p) (p .clauses) (l ∷ []) (s .eachClause) alone c m);
-      literals = omega (arith, ap length (joined-more (λ (c : Clause). c) (p .clauses) (l ∷ [])), length-append (joined (λ (c : Clause). c) (p .clauses)) (l ∷ []), few-literals);
       goals = subst (λ gs. length gs ≤ 64) (sym (goal-known (p .clauses) l goal)) (h .goals);
     }
-  where
-    few-literals : length (joined (λ (c : Clause). c) (p .clauses)) ≤ 512
-    few-literals =
-        let few = joined-length (λ (c : Clause). c) 8 (p .clauses) (λ c m. h .eachClause c m .literals) in
-        omega (arith, few, h .clauses)
 
 -- ── all lines ──
 

@@ -6,6 +6,7 @@ use mathlib.Core.Option.{Option, none, some}
 use mathlib.Core.List.{List}
 use native.Mathlib.Omega.{arith}
 use lib.ListN.{length}
+use Rattle.definitions.specs.Bounds.{roomBytes}
 use Rattle.definitions.specs.Lists.{_∈_}
 use Rattle.definitions.specs.Words.{Problem, goalAtoms}
 use Rattle.definitions.specs.Instances.{taskOf}
@@ -78,7 +79,7 @@ module _ (sheet : List ℕ) (p : Problem) (reads : read sheet ≡ accepted p) (b
     logged-once = no-instance-logged-twice (taskOf p) budget v s e
 
     -- the listing, at a 32-bit budget: at most 45,056 bytes, and every number fits its column
-    pub listing-at-most : budget < 2 ^ 32 → length (listing v s) ≤ 45056
+    pub listing-at-most : budget < 2 ^ 32 → length (listing v s) ≤ roomBytes
     listing-at-most h = omega (arith, listing-length v s (search-listable p (accepted-limits sheet p reads) budget h v s e))
 
     pub listing-columns-fit : budget < 2 ^ 32 → (line : List Field) → line ∈ listingLines v s → (f : Field) → f ∈ line → FieldFits f

@@ -6,6 +6,7 @@ use mathlib.Core.List.{List}
 use native.Mathlib.Omega.{arith}
 use lib.ListN.{length, getD, take, drop}
 use borrow.Author.Tests.{lt-ltb, le-ltb, not-true, not-false}
+use Rattle.encoding.specs.Lengths.{literalArray}
 use Rattle.definitions.specs.Lists.{all}
 use Rattle.encoding.specs.Values.{falseWord}
 use Rattle.encoding.specs.ArrayLaws.{part-cons, part-nil, getD-rising}
@@ -56,11 +57,11 @@ module _ {starts literals heads : List ℕ} {given : ℕ} where
 
   module _ (c : ℕ) {from : ℕ} (f : ClausesFit starts literals heads given (c + 1)) (from-is : from ≡ getD starts c 0) where
     pub clause-within : {end : ℕ} → end ≡ getD starts (c + 1) 0
-        → (from ≤ end) × (end ≤ 2568) × ((i : ℕ) → i < end → getD literals i 0 < 512)
+        → (from ≤ end) × (end ≤ literalArray) × ((i : ℕ) → i < end → getD literals i 0 < 512)
     clause-within e = (omega (arith, f .rising c (omega arith)), omega (arith, f .inside (c + 1) (omega arith)), λ i l. f .words i (omega arith))
 
     pub heads-within : {count : ℕ} → given ≤ c → count ≡ getD heads (c - given) 0
-        → (from + count ≤ 2568) × ((i : ℕ) → i < from + count → getD literals i 0 < 512)
+        → (from + count ≤ literalArray) × ((i : ℕ) → i < from + count → getD literals i 0 < 512)
     heads-within l e =
         let h : getD starts c 0 + getD heads (c - given) 0 ≤ getD starts (c + 1) 0 = f .heads-inside c l (omega arith) in
         (omega (arith, f .inside (c + 1) (omega arith)), λ i k. f .words i (omega arith))

@@ -4,6 +4,7 @@ use mathlib.Core.Bool.{Bool, true, false, _&&_, _||_, not}
 use mathlib.Core.List.{List}
 use lib.Dec.{ltb}
 use lib.ListN.{getD, take, drop}
+use Rattle.encoding.specs.Lengths.{literalArray}
 use Rattle.definitions.specs.Lists.{all}
 use Rattle.encoding.specs.Values.{falseWord}
 use Rattle.units.specs.Scan.{look}
@@ -45,6 +46,6 @@ pub record ClausesFit (starts literals heads : List ℕ) (goalClauses clauses : 
   pub few : clauses ≤ goalClauses + 512
   pub limit : clauses ≤ 577
   pub rising : (c : ℕ) → c < clauses → getD starts c 0 ≤ getD starts (c + 1) 0
-  pub inside : (c : ℕ) → c ≤ clauses → getD starts c 0 ≤ 2568
+  pub inside : (c : ℕ) → c ≤ clauses → getD starts c 0 ≤ literalArray
   pub words : (i : ℕ) → i < getD starts clauses 0 → getD literals i 0 < 512
   pub heads-inside : (c : ℕ) → goalClauses ≤ c → c < clauses → getD starts c 0 + getD heads (c - goalClauses) 0 ≤ getD starts (c + 1) 0

@@ -5,6 +5,7 @@ pub mod trail; // trail.rt: setting and undoing
 ghost use mathlib.Core.Path.{_≡_};
 ghost use Prim.Native.Nat.{ℕ, _+_, _≤_, _<_};
 ghost use lib.ListN.{getD, take, drop};
+ghost use Rattle.encoding.specs.Lengths.{literalArray};
 ghost use Rattle.definitions.specs.Lists.{all};
 ghost use Rattle.encoding.specs.Values.{falseWord};
 ghost use Rattle.units.specs.Units.{maySet, actAt, actFrom, ClausesFit};
@@ -30,7 +31,7 @@ pub enum UnitAct {
 
 // Whether so many words from a place on are all false.
 fn all_false(values: &[u8; ATOMS], literals: &[u16; LITERALS], from: usize, count: usize) -> bool
-    requires { ⌜ (from + count ≤ 2568) × ((i : ℕ) → i < from + count → getD (now literals) i 0 < 512) ⌝ }
+    requires { ⌜ (from + count ≤ literalArray) × ((i : ℕ) → i < from + count → getD (now literals) i 0 < 512) ⌝ }
     ensures { λ r. ⌜ r ≡ all (falseWord (now (values .entry))) (take count (drop from (now (literals .entry)))) ⌝ }
 {
     let words: &[u16] = literals; // the proof knows a slice's length

@@ -2,6 +2,7 @@
 ghost use mathlib.Core.Path.{_≡_};
 ghost use Prim.Native.Nat.{ℕ, _-_, _≤_, _<_};
 ghost use lib.ListN.{getD, take, drop};
+ghost use Rattle.encoding.specs.Lengths.{literalArray};
 ghost use Rattle.units.specs.Scan.{seenWith, look};
 use crate::Seen;
 use encoding::ATOMS;
@@ -28,7 +29,7 @@ fn seen_with(seen: Seen, w: u16, v: Value) -> Seen
 
 // What the words from one place up to another say.
 pub fn look_at(values: &[u8; ATOMS], literals: &[u16; LITERALS], from: usize, end: usize) -> Seen
-    requires { ⌜ (from ≤ end) × (end ≤ 2568) × ((i : ℕ) → i < end → getD (now literals) i 0 < 512) ⌝ }
+    requires { ⌜ (from ≤ end) × (end ≤ literalArray) × ((i : ℕ) → i < end → getD (now literals) i 0 < 512) ⌝ }
     ensures { λ r. ⌜ r ≡ look (now (values .entry)) (take (end - from) (drop from (now (literals .entry)))) ⌝ }
 {
     let words: &[u16] = literals; // the proof knows a slice's length

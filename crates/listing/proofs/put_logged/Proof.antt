@@ -5,6 +5,7 @@ use mathlib.Core.List.{List, [], _∷_}
 use native.Mathlib.Omega.{arith}
 use lib.ListN.{length, getD}
 use borrow.Author.Needs.{needs}
+use Rattle.encoding.specs.Lengths.{literalArray}
 use Rattle.definitions.specs.Lists.{joined}
 use Rattle.definitions.specs.Sheet.{Number, plus}
 use Rattle.units.specs.Units.{clauseAt}
@@ -27,7 +28,7 @@ end s = getD (s .args .starts .now) (clause s + 1) 0
 rises : (s : tie.Start) → from s ≤ end s
 rises s = s .pre .1 .rising (clause s) (omega arith)
 
-inside : (s : tie.Start) → end s ≤ 2568
+inside : (s : tie.Start) → end s ≤ literalArray
 inside s = s .pre .1 .inside (clause s + 1) (omega arith)
 
 -- its words, and the numbers of its literals
