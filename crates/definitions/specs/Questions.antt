@@ -45,8 +45,8 @@ columns (a ∷ b ∷ c ∷ d ∷ rest) = do
   ns ← columns rest
   yes (n ∷ ns)
 
--- a walk over the columns of a line: what was found, and the columns that are left
-pub record Walk (A : Type 0) : Type 0 where
+-- what was found in the first columns of a line, and the columns that are left
+pub record Parsed (A : Type 0) : Type 0 where
   pub found : A
   pub left : List Number
 
@@ -54,14 +54,14 @@ pub record Walk (A : Type 0) : Type 0 where
 unfoldable pub within : ℕ → ℕ → Number → Bool
 within low high n = not (n .negative) && leb low (n .size) && leb (n .size) high
 
-unfoldable pub count : ℕ → ℕ → ℕ → List Number → Asked (Walk ℕ)
+unfoldable pub count : ℕ → ℕ → ℕ → List Number → Asked (Parsed ℕ)
 count q low high [] = no q
 count q low high (n ∷ ns) = do
   ask q (within low high n)
   yes (record { found = n .size; left = ns })
 
 -- 7: kind 1 on the first line, and on later lines 2 to 4 and no lower than the line before; 0 stands for no line before
-unfoldable pub kindOf : ℕ → List Number → Asked (Walk ℕ)
+unfoldable pub kindOf : ℕ → List Number → Asked (Parsed ℕ)
 kindOf zero ns = count 7 1 1 ns
 kindOf (suc before) ns = do
   k ← count 7 2 4 ns
@@ -81,7 +81,7 @@ unfoldable pub clauseArgument : ℕ → Number → Asked ℕ
 clauseArgument constants n = ask 10 (within 1 constants n) >> yes (n .size)
 
 module _ {A : Type 0} where
-  unfoldable pub arguments : (Number → Asked A) → ℕ → List Number → Asked (Walk (List A))
+  unfoldable pub arguments : (Number → Asked A) → ℕ → List Number → Asked (Parsed (List A))
   arguments argument zero ns = yes (record { found = []; left = ns })
   arguments argument (suc k) [] = no 10
   arguments argument (suc k) (n ∷ ns) = do
@@ -91,14 +91,14 @@ module _ {A : Type 0} where
 
 module _ {A L : Type 0} where
   -- 10: the column is there, the symbol is declared, and so many arguments follow as it has
-  unfoldable pub literal : (Number → Asked A) → (Bool → ℕ → List A → L) → List ℕ → List Number → Asked (Walk L)
+  unfoldable pub literal : (Number → Asked A) → (Bool → ℕ → List A → L) → List ℕ → List Number → Asked (Parsed L)
   literal argument make arities [] = no 10
   literal argument make arities (n ∷ ns) = do
     ask 10 (leb 1 (n .size) && leb (n .size) (length arities))
     w ← arguments argument (getD arities (n .size - 1) 0) ns
     yes (record { found = make (not (n .negative)) (n .size) (w .found); left = w .left })
 
-  unfoldable pub literals : (Number → Asked A) → (Bool → ℕ → List A → L) → List ℕ → ℕ → List Number → Asked (Walk (List L))
+  unfoldable pub literals : (Number → Asked A) → (Bool → ℕ → List A → L) → List ℕ → ℕ → List Number → Asked (Parsed (List L))
   literals argument make arities zero ns = yes (record { found = []; left = ns })
   literals argument make arities (suc k) ns = do
     l ← literal argument make arities ns
@@ -111,10 +111,10 @@ patternOf positive symbol terms = record { positive = positive; symbol = symbol;
 unfoldable pub literalOf : Bool → ℕ → List ℕ → Literal
 literalOf positive symbol args = record { positive = positive; atom = record { symbol = symbol; args = args } }
 
-unfoldable pub patterns : ℕ → List ℕ → ℕ → List Number → Asked (Walk (List Pattern))
+unfoldable pub patterns : ℕ → List ℕ → ℕ → List Number → Asked (Parsed (List Pattern))
 patterns constants arities = literals (ruleArgument constants) patternOf arities
 
-unfoldable pub clauseLiterals : ℕ → List ℕ → ℕ → List Number → Asked (Walk Clause)
+unfoldable pub clauseLiterals : ℕ → List ℕ → ℕ → List Number → Asked (Parsed Clause)
 clauseLiterals constants arities = literals (clauseArgument constants) literalOf arities
 
 -- 12: each body variable stands in the head
@@ -145,14 +145,14 @@ pub record RuleCounts : Type 0 where
   pub heads : ℕ
   pub body : ℕ
 
-unfoldable pub ruleCounts : List Number → Asked (Walk RuleCounts)
+unfoldable pub ruleCounts : List Number → Asked (Parsed RuleCounts)
 ruleCounts ns = do
   headCount ← count 8 1 mostHeads ns
   bodyCount ← count 8 0 mostBody (headCount .left)
   yes (record { found = record { heads = headCount .found; body = bodyCount .found }; left = bodyCount .left })
 
 -- 10 to 12: the rule that counts and the columns behind them give
-unfoldable pub ruleBehind : ℕ → List ℕ → Walk RuleCounts → Asked Rule
+unfoldable pub ruleBehind : ℕ → List ℕ → Parsed RuleCounts → Asked Rule
 ruleBehind constants arities counts = do
   heads ← patterns constants arities (counts .found .heads) (counts .left)
   body ← patterns constants arities (counts .found .body) (heads .left)
@@ -169,11 +169,11 @@ ruleAsked constants arities rules ns = do
   ruleBehind constants arities counts
 
 -- 8: the count of a line of kind 4
-unfoldable pub clauseCount : List Number → Asked (Walk ℕ)
+unfoldable pub clauseCount : List Number → Asked (Parsed ℕ)
 clauseCount = count 8 0 mostLiterals
 
 -- 10 and 11: the clause that a count and the columns behind it give
-unfoldable pub clauseBehind : ℕ → List ℕ → Walk ℕ → Asked Clause
+unfoldable pub clauseBehind : ℕ → List ℕ → Parsed ℕ → Asked Clause
 clauseBehind constants arities literalCount = do
   c ← clauseLiterals constants arities (literalCount .found) (literalCount .left)
   ask 11 (isEmpty (c .left))

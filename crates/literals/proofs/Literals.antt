@@ -11,7 +11,7 @@ use borrow.Author.Tests.{le-leb, lt-leb, eqb-true, eqb-false}
 use Rattle.definitions.specs.Lists.{joined}
 use Rattle.definitions.specs.Words.{Term, Pattern}
 use Rattle.definitions.specs.Sheet.{Number}
-use Rattle.definitions.specs.Questions.{Asked, no, yes, _>>=_, _>>_, ask, Walk, arguments, literal, literals, patternOf}
+use Rattle.definitions.specs.Questions.{Asked, no, yes, _>>=_, _>>_, ask, Parsed, arguments, literal, literals, patternOf}
 use Rattle.theory.specs.Tests.{by-test, true-and-false}
 use Rattle.theory.specs.AskedLaws.{by-asked}
 use Rattle.column.specs.Sets.{sets-append}
@@ -47,7 +47,7 @@ module _ (a : Number → Asked Term) (arities : List ℕ) (n : Number) (ns : Lis
   declared l h = rw (le-leb 1 (n .size) l, le-leb (n .size) (length arities) h)
 
 module _ (rule : Bool) (constants : ℕ) (arities line : List ℕ) (at base : ℕ) (before now : List ℕ) where
-  abbrev whole : Asked (Walk Pattern)
+  abbrev whole : Asked (Parsed Pattern)
   whole = literal (argument rule constants) patternOf arities (drop at (map numberOf line))
 
   refused : (q : ℕ) → whole ≡ no q → SlotRead whole (length line) 0 base before now
@@ -73,7 +73,7 @@ module _ (rule : Bool) (constants : ℕ) (arities line : List ℕ) (at base : �
 
     -- the arguments are read into the rest of the slot
     module _ (z : v / 2 ≡ 0 → ⊥) (k : v / 2 ≤ length arities) (arity : ℕ) (same : arity ≡ getD arities (v / 2 - 1) 0) where
-      abbrev args : Asked (Walk (List Term))
+      abbrev args : Asked (Parsed (List Term))
       args = arguments (argument rule constants) arity behind
 
       told : whole ≡ (args >>= λ w. yes (record { found = patternOf (not (eqb (getD line at 0 % 2) 1)) (getD line at 0 / 2) (w .found); left = w .left }))
@@ -105,18 +105,18 @@ module _ (rule : Bool) (constants : ℕ) (arities line : List ℕ) (at base : �
 -- ── several literals ──
 
 -- so many patterns are found and stand in the first slots, and the walk over the rest gives what is missing of the whole
-pub record SlotsSoFar (whole rest : Asked (Walk (List Pattern))) (i : ℕ) (before now : List ℕ) : Type 0 where
+pub record SlotsSoFar (whole rest : Asked (Parsed (List Pattern))) (i : ℕ) (before now : List ℕ) : Type 0 where
   pub patterns : List Pattern
   pub count : length patterns ≡ i
   pub split : whole ≡ prefixed patterns rest
   pub words : now ≡ sets before 0 (slotWords patterns)
 
 -- the walk over the literals from this one on, at this column
-unfoldable pub literalsFrom : Bool → ℕ → List ℕ → List ℕ → ℕ → ℕ → ℕ → Asked (Walk (List Pattern))
+unfoldable pub literalsFrom : Bool → ℕ → List ℕ → List ℕ → ℕ → ℕ → ℕ → Asked (Parsed (List Pattern))
 literalsFrom rule constants arities line count at i = literals (argument rule constants) patternOf arities (count - i) (drop at (map numberOf line))
 
 module _ (rule : Bool) (constants : ℕ) (arities line : List ℕ) (count at i : ℕ) where
-  abbrev next-literal : Asked (Walk Pattern)
+  abbrev next-literal : Asked (Parsed Pattern)
   next-literal = literal (argument rule constants) patternOf arities (drop at (map numberOf line))
 
   module _ (l : i < count) where
@@ -127,7 +127,7 @@ module _ (rule : Bool) (constants : ℕ) (arities line : List ℕ) (count at i :
     unfolding literalsFrom literals _>>=_
     from-no q e = rw (more, e)
 
-    from-yes : (w : Walk Pattern) → next-literal ≡ yes w → (next : ℕ) → w .left ≡ drop next (map numberOf line)
+    from-yes : (w : Parsed Pattern) → next-literal ≡ yes w → (next : ℕ) → w .left ≡ drop next (map numberOf line)
         → literalsFrom rule constants arities line count at i ≡ prefixed (w .found ∷ []) (literalsFrom rule constants arities line count next (i + 1))
     unfolding literalsFrom literals _>>=_ prefixed
     from-yes w e next left =
@@ -137,7 +137,7 @@ module _ (rule : Bool) (constants : ℕ) (arities line : List ℕ) (count at i :
         (λ v f. cc))
 
   -- a literal that is read passes its own column at least
-  passed : (w : Walk Pattern) → next-literal ≡ yes w → at ≤ length line → (next : ℕ) → next + length (w .left) ≡ length line
+  passed : (w : Parsed Pattern) → next-literal ≡ yes w → at ≤ length line → (next : ℕ) → next + length (w .left) ≡ length line
       → (at < next) × (next ≤ length line) × (w .left ≡ drop next (map numberOf line))
   passed w e within next same =
       let r = literal-read (argument rule constants) patternOf arities (drop at (map numberOf line)) w e in
@@ -150,7 +150,7 @@ module _ (rule : Bool) (constants : ℕ) (arities line : List ℕ) (count at i :
       (omega (arith, place), omega (arith, same), rest .rest ∙ rw (drop-drop, place))
 
 module _ (rule : Bool) (constants : ℕ) (arities line : List ℕ) (from count : ℕ) (before : List ℕ) where
-  abbrev all : Asked (Walk (List Pattern))
+  abbrev all : Asked (Parsed (List Pattern))
   all = literals (argument rule constants) patternOf arities count (drop from (map numberOf line))
 
   pub fill-start : SlotsSoFar all (literalsFrom rule constants arities line count from 0) 0 before before
@@ -168,7 +168,7 @@ module _ (rule : Bool) (constants : ℕ) (arities line : List ℕ) (from count :
         let w : all ≡ yes (record { found = so .patterns; left = rest }) = so .split ∙ rw (none, append-nil (so .patterns)) in
         rw w (omega (arith, length-drop at (map numberOf line), length-map line numberOf), so .words)
 
-    put : i < count → (w : Walk Pattern) → literal (argument rule constants) patternOf arities (drop at (map numberOf line)) ≡ yes w
+    put : i < count → (w : Parsed Pattern) → literal (argument rule constants) patternOf arities (drop at (map numberOf line)) ≡ yes w
         → (next : ℕ) → w .left ≡ drop next (map numberOf line) → (after : List ℕ) → after ≡ sets now (4 * i) (patternWords (w .found))
         → SlotsSoFar all (literalsFrom rule constants arities line count next (i + 1)) (i + 1) before after
     put l w e next left after words =
@@ -183,7 +183,7 @@ module _ (rule : Bool) (constants : ℕ) (arities line : List ℕ) (from count :
         }
 
     module _ (l : i < count) (next : ℕ) (after : List ℕ) (read : SlotRead (literal (argument rule constants) patternOf arities (drop at (map numberOf line))) (length line) next (4 * i) now after) where
-      abbrev here : Asked (Walk Pattern)
+      abbrev here : Asked (Parsed Pattern)
       here = literal (argument rule constants) patternOf arities (drop at (map numberOf line))
 
       pub fill-refused : next ≡ 0 → SlotsRead all (length line) 0 before after

@@ -8,7 +8,7 @@ use lib.ListN.{length, length-append, getD, List·getD-map, length-map, drop, dr
 use lib.Seq.{drop-cons, set-set, sets}
 use Rattle.definitions.specs.Words.{Term, variable, constant}
 use Rattle.definitions.specs.Sheet.{Number}
-use Rattle.definitions.specs.Questions.{Asked, no, yes, _>>=_, Walk, arguments}
+use Rattle.definitions.specs.Questions.{Asked, no, yes, _>>=_, Parsed, arguments}
 use Rattle.theory.specs.AskedLaws.{by-asked}
 use Rattle.column.specs.Sets.{sets-before}
 use Rattle.encoding.specs.Signs.{numberOf}
@@ -77,14 +77,14 @@ three-zeros l base =
 -- ── the walk ──
 
 -- so many terms are found and stand in the slot, and the walk over the rest gives what is missing of the whole
-pub record TermsSoFar (whole rest : Asked (Walk (List Term))) (j base : ℕ) (before now : List ℕ) : Type 0 where
+pub record TermsSoFar (whole rest : Asked (Parsed (List Term))) (j base : ℕ) (before now : List ℕ) : Type 0 where
   pub terms : List Term
   pub count : length terms ≡ j
   pub split : whole ≡ prefixed terms rest
   pub words : now ≡ sets before base (termWords terms)
 
 -- the walk over the arguments from this one on
-unfoldable pub termsFrom : Bool → ℕ → List ℕ → ℕ → ℕ → ℕ → Asked (Walk (List Term))
+unfoldable pub termsFrom : Bool → ℕ → List ℕ → ℕ → ℕ → ℕ → Asked (Parsed (List Term))
 termsFrom rule constants line at arity j = arguments (argument rule constants) (arity - j) (drop (at + j) (map numberOf line))
 
 module _ (rule : Bool) (constants : ℕ) (line : List ℕ) (at arity j : ℕ) (l : j < arity) where
@@ -116,7 +116,7 @@ module _ (rule : Bool) (constants : ℕ) (line : List ℕ) (at arity j : ℕ) (l
         (λ w f. cc))
 
 module _ (rule : Bool) (constants : ℕ) (line : List ℕ) (at arity base : ℕ) (before : List ℕ) where
-  abbrev whole : Asked (Walk (List Term))
+  abbrev whole : Asked (Parsed (List Term))
   whole = arguments (argument rule constants) arity (drop at (map numberOf line))
 
   pub terms-start : (now : List ℕ) → now ≡ sets before base (termWords []) → TermsSoFar whole (termsFrom rule constants line at arity 0) 0 base before now

@@ -12,7 +12,7 @@ use Rattle.definitions.specs.Lists.{all, joined}
 use Rattle.definitions.specs.Words.{Term, variable, constant, Pattern}
 use Rattle.definitions.specs.Instances.{termValue, ground}
 use Rattle.definitions.specs.Sheet.{Number}
-use Rattle.definitions.specs.Questions.{Asked, no, yes, _>>=_, _>>_, ask, Walk, within, ruleArgument, clauseArgument, arguments, literal, literals, patternOf, literalOf, clauseLiterals, inHead, restricted}
+use Rattle.definitions.specs.Questions.{Asked, no, yes, _>>=_, _>>_, ask, Parsed, within, ruleArgument, clauseArgument, arguments, literal, literals, patternOf, literalOf, clauseLiterals, inHead, restricted}
 use Rattle.theory.specs.Tests.{by-test, apart, true-and-false}
 use Rattle.theory.specs.ListLaws.{Each, each-nil, each-cons}
 use Rattle.theory.specs.AskedLaws.{no≢yes, yes-injective, by-asked, bind-yes, ask-yes}
@@ -24,22 +24,22 @@ use Rattle.encoding.specs.SlotLaws.{WordTells, InSlot, first-in, second-in, thi
 -- ── a walk in two parts ──
 
 -- a walk with something found in front of it
-unfoldable pub prefixed : {A : Type 0} → List A → Asked (Walk (List A)) → Asked (Walk (List A))
+unfoldable pub prefixed : {A : Type 0} → List A → Asked (Parsed (List A)) → Asked (Parsed (List A))
 prefixed xs (no q) = no q
 prefixed xs (yes w) = yes (record { found = xs ++ w .found; left = w .left })
 
-pub prefixed-nil : {A : Type 0} (m : Asked (Walk (List A))) → prefixed [] m ≡ m
+pub prefixed-nil : {A : Type 0} (m : Asked (Parsed (List A))) → prefixed [] m ≡ m
 unfolding prefixed
 prefixed-nil (no q) = refl
 prefixed-nil (yes w) = refl
 
-pub prefixed-twice : {A : Type 0} (xs ys : List A) (m : Asked (Walk (List A))) → prefixed xs (prefixed ys m) ≡ prefixed (xs ++ ys) m
+pub prefixed-twice : {A : Type 0} (xs ys : List A) (m : Asked (Parsed (List A))) → prefixed xs (prefixed ys m) ≡ prefixed (xs ++ ys) m
 unfolding prefixed
 prefixed-twice xs ys (no q) = refl
 prefixed-twice xs ys (yes w) = rw append-assoc
 
 module _ {A L : Type 0} (argument : Number → Asked A) (make : Bool → ℕ → List A → L) (arities : List ℕ) where
-  abbrev walk : ℕ → List Number → Asked (Walk (List L))
+  abbrev walk : ℕ → List Number → Asked (Parsed (List L))
   walk = literals argument make arities
 
   pub literals-split : (h b : ℕ) (ns : List Number)
@@ -78,7 +78,7 @@ rest-more j k ms ns left f g =
     }
 
 module _ {A : Type 0} (argument : Number → Asked A) where
-  pub arguments-length : (k : ℕ) (ns : List Number) (w : Walk (List A)) → arguments argument k ns ≡ yes w → length (w .found) ≡ k
+  pub arguments-length : (k : ℕ) (ns : List Number) (w : Parsed (List A)) → arguments argument k ns ≡ yes w → length (w .found) ≡ k
   unfolding arguments
   arguments-length zero ns w e = ap (λ v. length (v .found)) (sym (yes-injective e))
   arguments-length (suc k) [] w e = no≢yes e
@@ -87,7 +87,7 @@ module _ {A : Type 0} (argument : Number → Asked A) where
       let (v, r, g) = bind-yes (arguments argument k ns) _ w f in
       sym (ap (λ u. length (u .found)) (yes-injective g)) ∙ ap suc (arguments-length k ns v r)
 
-  pub arguments-rest : (k : ℕ) (ns : List Number) (w : Walk (List A)) → arguments argument k ns ≡ yes w → RestAfter k ns (w .left)
+  pub arguments-rest : (k : ℕ) (ns : List Number) (w : Parsed (List A)) → arguments argument k ns ≡ yes w → RestAfter k ns (w .left)
   unfolding arguments
   arguments-rest zero ns w e = record { enough = omega arith; rest = ap (λ v. v .left) (sym (yes-injective e)) }
   arguments-rest (suc k) [] w e = no≢yes e
@@ -99,18 +99,18 @@ module _ {A : Type 0} (argument : Number → Asked A) where
 
 module _ {A L : Type 0} (argument : Number → Asked A) (make : Bool → ℕ → List A → L) (arities : List ℕ) where
   -- a literal that is read: its own column, and its arguments behind it
-  pub record LiteralRead (ns : List Number) (w : Walk L) : Type 0 where
+  pub record LiteralRead (ns : List Number) (w : Parsed L) : Type 0 where
     pub column : Number
     pub behind : List Number
     pub split : ns ≡ column ∷ behind
     pub some : 1 ≤ column .size
     pub declared : column .size ≤ length arities
-    pub args : Walk (List A)
+    pub args : Parsed (List A)
     pub read : arguments argument (getD arities (column .size - 1) 0) behind ≡ yes args
     pub found : w .found ≡ make (not (column .negative)) (column .size) (args .found)
     pub left : w .left ≡ args .left
 
-  pub literal-read : (ns : List Number) (w : Walk L) → literal argument make arities ns ≡ yes w → LiteralRead ns w
+  pub literal-read : (ns : List Number) (w : Parsed L) → literal argument make arities ns ≡ yes w → LiteralRead ns w
   unfolding literal
   literal-read [] w e = no≢yes e
   literal-read (n ∷ ns) w e =
@@ -126,30 +126,30 @@ module _ {A L : Type 0} (argument : Number → Asked A) (make : Bool → ℕ →
         declared = declared;
         args = v;
         read = r;
-        found = ap (λ (u : Walk L). u .found) same;
-        left = ap (λ (u : Walk L). u .left) same;
+        found = ap (λ (u : Parsed L). u .found) same;
+        left = ap (λ (u : Parsed L). u .left) same;
       }
 
-  pub literal-rest : (ns : List Number) (w : Walk L) (r : LiteralRead ns w)
+  pub literal-rest : (ns : List Number) (w : Parsed L) (r : LiteralRead ns w)
       → RestAfter (suc (getD arities (r .column .size - 1) 0)) ns (w .left)
   literal-rest ns w r =
       let g = arguments-rest argument _ (r .behind) (r .args) (r .read) in
       record { enough = rw (r .split) (omega (arith, g .enough)); rest = r .left ∙ g .rest ∙ rw (r .split) }
 
   -- so many literals are found, and what is left is a rest
-  pub record LiteralsRead (k : ℕ) (ns : List Number) (w : Walk (List L)) : Type 0 where
+  pub record LiteralsRead (k : ℕ) (ns : List Number) (w : Parsed (List L)) : Type 0 where
     pub count : length (w .found) ≡ k
     pub passed : ℕ
     pub rest : RestAfter passed ns (w .left)
 
-  pub literals-read : (k : ℕ) (ns : List Number) (w : Walk (List L)) → literals argument make arities k ns ≡ yes w → LiteralsRead k ns w
+  pub literals-read : (k : ℕ) (ns : List Number) (w : Parsed (List L)) → literals argument make arities k ns ≡ yes w → LiteralsRead k ns w
   unfolding literals
   literals-read zero ns w e =
       let same = sym (yes-injective e) in
       record {
-        count = ap (λ (v : Walk (List L)). length (v .found)) same;
+        count = ap (λ (v : Parsed (List L)). length (v .found)) same;
         passed = 0;
-        rest = record { enough = omega arith; rest = ap (λ (v : Walk (List L)). v .left) same };
+        rest = record { enough = omega arith; rest = ap (λ (v : Parsed (List L)). v .left) same };
       }
   literals-read (suc k) ns w e =
       let (l, p, f) = bind-yes (literal argument make arities ns) _ w e in
@@ -159,23 +159,23 @@ module _ {A L : Type 0} (argument : Number → Asked A) (make : Bool → ℕ →
       let first = literal-rest ns l (literal-read ns l p) in
       let whole = rest-more _ (h .passed) ns (l .left) (v .left) first (h .rest) in
       record {
-        count = ap (λ (u : Walk (List L)). length (u .found)) same ∙ ap suc (h .count);
+        count = ap (λ (u : Parsed (List L)). length (u .found)) same ∙ ap suc (h .count);
         passed = _;
-        rest = record { enough = whole .enough; rest = ap (λ (u : Walk (List L)). u .left) same ∙ whole .rest };
+        rest = record { enough = whole .enough; rest = ap (λ (u : Parsed (List L)). u .left) same ∙ whole .rest };
       }
 
   -- a property of every literal that is read
-  pub literals-each : (P : L → Type 0) → ((ns : List Number) (w : Walk L) → LiteralRead ns w → P (w .found))
-      → (k : ℕ) (ns : List Number) (w : Walk (List L)) → literals argument make arities k ns ≡ yes w → Each P (w .found)
+  pub literals-each : (P : L → Type 0) → ((ns : List Number) (w : Parsed L) → LiteralRead ns w → P (w .found))
+      → (k : ℕ) (ns : List Number) (w : Parsed (List L)) → literals argument make arities k ns ≡ yes w → Each P (w .found)
   unfolding literals
-  literals-each P each zero ns w e = subst (λ (v : Walk (List L)). Each P (v .found)) (yes-injective e) (each-nil P)
+  literals-each P each zero ns w e = subst (λ (v : Parsed (List L)). Each P (v .found)) (yes-injective e) (each-nil P)
   literals-each P each (suc k) ns w e =
       let (l, p, f) = bind-yes (literal argument make arities ns) _ w e in
       let (v, r, g) = bind-yes (literals argument make arities k (l .left)) _ w f in
-      subst (λ (v : Walk (List L)). Each P (v .found)) (yes-injective g)
+      subst (λ (v : Parsed (List L)). Each P (v .found)) (yes-injective g)
       (each-cons P (each ns l (literal-read ns l p)) (literals-each P each k (l .left) v r))
 
-  module _ (k : ℕ) (ns : List Number) (w : Walk (List L)) (e : literals argument make arities k ns ≡ yes w) where
+  module _ (k : ℕ) (ns : List Number) (w : Parsed (List L)) (e : literals argument make arities k ns ≡ yes w) where
     pub literals-length : length (w .found) ≡ k
     literals-length = literals-read k ns w e .count
 
@@ -319,16 +319,16 @@ pub constant-only : (constants : ℕ) (t : Term) → TermInRange false constants
 constant-only constants (variable v) h = true-and-false (h .0) refl
 constant-only constants (constant c) h = (c, refl, h .0, h .1)
 
-arguments-in-range : (rule : Bool) (constants k : ℕ) (ns : List Number) (w : Walk (List Term))
+arguments-in-range : (rule : Bool) (constants k : ℕ) (ns : List Number) (w : Parsed (List Term))
     → arguments (argument rule constants) k ns ≡ yes w → Each (TermInRange rule constants) (w .found)
 unfolding arguments
 arguments-in-range rule constants zero ns w e =
-    subst (λ (v : Walk (List Term)). Each (TermInRange rule constants) (v .found)) (yes-injective e) (each-nil (TermInRange rule constants))
+    subst (λ (v : Parsed (List Term)). Each (TermInRange rule constants) (v .found)) (yes-injective e) (each-nil (TermInRange rule constants))
 arguments-in-range rule constants (suc k) [] w e = no≢yes e
 arguments-in-range rule constants (suc k) (n ∷ ns) w e =
     let (t, p, f) = bind-yes (argument rule constants n) _ w e in
     let (v, r, g) = bind-yes (arguments (argument rule constants) k ns) _ w f in
-    subst (λ (u : Walk (List Term)). Each (TermInRange rule constants) (u .found)) (yes-injective g)
+    subst (λ (u : Parsed (List Term)). Each (TermInRange rule constants) (u .found)) (yes-injective g)
     (each-cons (TermInRange rule constants) (argument-in-range rule constants n t p) (arguments-in-range rule constants k ns v r))
 
 -- what a pattern that is read keeps: its symbol is declared, and it has so many terms as the symbol has arguments, each in range
@@ -338,7 +338,7 @@ pub record PatternRead (rule : Bool) (constants : ℕ) (arities : List ℕ) (x :
   pub terms : length (x .terms) ≡ getD arities (x .symbol - 1) 0
   pub inRange : Each (TermInRange rule constants) (x .terms)
 
-pub patterns-read : (rule : Bool) (constants : ℕ) (arities : List ℕ) (k : ℕ) (ns : List Number) (w : Walk (List Pattern))
+pub patterns-read : (rule : Bool) (constants : ℕ) (arities : List ℕ) (k : ℕ) (ns : List Number) (w : Parsed (List Pattern))
     → literals (argument rule constants) patternOf arities k ns ≡ yes w → Each (PatternRead rule constants arities) (w .found)
 unfolding patternOf
 patterns-read rule constants arities =

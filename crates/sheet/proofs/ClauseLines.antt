@@ -10,7 +10,7 @@ use Rattle.definitions.specs.Lists.{isEmpty}
 use Rattle.definitions.specs.Words.{Clause, Pattern}
 use Rattle.definitions.specs.Instances.{ground}
 use Rattle.definitions.specs.Sheet.{Number}
-use Rattle.definitions.specs.Questions.{Asked, no, yes, _>>=_, _>>_, ask, Walk, within, literals, patternOf, clauseCount, clauseBehind, clauseAsked}
+use Rattle.definitions.specs.Questions.{Asked, no, yes, _>>=_, _>>_, ask, Parsed, within, literals, patternOf, clauseCount, clauseBehind, clauseAsked}
 use Rattle.theory.specs.ListLaws.{Each}
 use Rattle.theory.specs.AskedLaws.{by-asked}
 use Rattle.theory.specs.Limits.{within-between}
@@ -71,7 +71,7 @@ clause-few k = rw (k .word) (omega (arith, within-between 0 8 _ (k .read)))
 -- ── the literals ──
 
 -- question 11 and the clause, of the literals as slots have them
-unfoldable clauseFrom : Asked (Walk (List Pattern)) → Asked Clause
+unfoldable clauseFrom : Asked (Parsed (List Pattern)) → Asked Clause
 clauseFrom (no q) = no q
 clauseFrom (yes w) = ask 11 (isEmpty (w .left)) >> yes (map (ground []) (w .found))
 

@@ -9,7 +9,7 @@ use lib.Seq.{sets, take-at, drop-at}
 use Rattle.definitions.specs.Lists.{isEmpty}
 use Rattle.definitions.specs.Words.{Pattern}
 use Rattle.definitions.specs.Sheet.{Number}
-use Rattle.definitions.specs.Questions.{Asked, no, yes, Walk, literals, patternOf}
+use Rattle.definitions.specs.Questions.{Asked, no, yes, Parsed, literals, patternOf}
 use Rattle.theory.specs.AskedLaws.{by-asked}
 use Rattle.column.specs.Sets.{front, sets-front}
 use Rattle.encoding.specs.Signs.{numbers}
@@ -22,8 +22,8 @@ use Rattle.encoding.specs.SlotLaws.{slotWords-length, slotWords-append}
 -- ── a walk that is refused or not ──
 
 -- the walk, the next column behind it, and its words in the slots
-pub record SlotsWalked (m : Asked (Walk (List Pattern))) (n next : ℕ) (before after : List ℕ) : Type 0 where
-  pub walk : Walk (List Pattern)
+pub record SlotsWalked (m : Asked (Parsed (List Pattern))) (n next : ℕ) (before after : List ℕ) : Type 0 where
+  pub walk : Parsed (List Pattern)
   pub read : m ≡ yes walk
   pub columns : next + length (walk .left) ≡ n
   pub words : after ≡ sets before 0 (slotWords (walk .found))
@@ -32,7 +32,7 @@ module _ (rule : Bool) (constants : ℕ) (arities : List ℕ) (n : ℕ) (row : L
     (fits : n ≤ length row) (first : 1 ≤ from) (there : from ≤ n)
     (r : SlotsRead (literals (argument rule constants) patternOf arities count (drop from (numbers n row))) n next before after) where
   -- so many columns are left that the next one is none of the first
-  walk-columns : (w : Walk (List Pattern)) → literals (argument rule constants) patternOf arities count (drop from (numbers n row)) ≡ yes w
+  walk-columns : (w : Parsed (List Pattern)) → literals (argument rule constants) patternOf arities count (drop from (numbers n row)) ≡ yes w
       → next + length (w .left) ≡ n → next ≡ 0 → ⊥
   walk-columns w e columns h =
       omega (arith, literals-fewer (argument rule constants) patternOf arities count (drop from (numbers n row)) w e, length-drop from (numbers n row), numbers-length n row fits)

@@ -4,7 +4,7 @@ use mathlib.Core.Bool.{Bool, true, false, _&&_}
 use mathlib.Core.List.{List, [], _∷_}
 use lib.Dec.{eqb, leb}
 use Rattle.definitions.specs.Sheet.{Number}
-use Rattle.definitions.specs.Questions.{Asked, no, yes, Walk, within}
+use Rattle.definitions.specs.Questions.{Asked, no, yes, Parsed, within}
 
 -- question 6, by whether every column was a decimal
 unfoldable pub rowAsked : Bool → List Number → Asked (List Number)
@@ -22,6 +22,6 @@ kindHere zero n = elim (within 1 1 n) [ true ↦ 1 | false ↦ 0 ]
 kindHere (suc before) n = elim (within 2 4 n && leb (suc before) (n .size)) [ true ↦ n .size | false ↦ 0 ]
 
 -- question 7 by that kind: it and the columns behind it
-unfoldable pub kindAsked : ℕ → List Number → Asked (Walk ℕ)
+unfoldable pub kindAsked : ℕ → List Number → Asked (Parsed ℕ)
 kindAsked zero ns = no 7
 kindAsked (suc k) ns = yes (record { found = suc k; left = ns })

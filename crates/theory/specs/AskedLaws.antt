@@ -9,7 +9,7 @@ use lib.ListN.{length, length-append, getD, List·getD-append}
 use borrow.Author.Tests.{leb-true, le-leb, not-true}
 use Rattle.definitions.specs.Words.{constant, Rule, Clause}
 use Rattle.definitions.specs.Sheet.{Number}
-use Rattle.definitions.specs.Questions.{Asked, no, yes, _>>=_, _>>_, ask, Walk, within, count, ruleArgument, clauseArgument, arguments, literal, literals, patternOf, literalOf, patterns, clauseLiterals, ruleCounts, ruleBehind, clauseCount, clauseBehind}
+use Rattle.definitions.specs.Questions.{Asked, no, yes, _>>=_, _>>_, ask, Parsed, within, count, ruleArgument, clauseArgument, arguments, literal, literals, patternOf, literalOf, patterns, clauseLiterals, ruleCounts, ruleBehind, clauseCount, clauseBehind}
 use Rattle.theory.specs.Tests.{by-test, apart, and-left, and-right, and-intro}
 
 -- ── every question of an accepted chain is answered yes ──
@@ -46,7 +46,7 @@ yes-ask q t m a e h = cc
 -- ── a column that holds a count ──
 
 -- the column is the first one, and its number is what was found
-pub record CountColumn (low high : ℕ) (ns : List Number) (w : Walk ℕ) : Type 0 where
+pub record CountColumn (low high : ℕ) (ns : List Number) (w : Parsed ℕ) : Type 0 where
   pub column : Number
   pub split : ns ≡ column ∷ w .left
   pub size : column .size ≡ w .found
@@ -54,14 +54,14 @@ pub record CountColumn (low high : ℕ) (ns : List Number) (w : Walk ℕ) : Type
   pub least : low ≤ w .found
   pub most : w .found ≤ high
 
-pub count-yes : (q low high : ℕ) (ns : List Number) (w : Walk ℕ) → count q low high ns ≡ yes w → CountColumn low high ns w
+pub count-yes : (q low high : ℕ) (ns : List Number) (w : Parsed ℕ) → count q low high ns ≡ yes w → CountColumn low high ns w
 unfolding count within
 count-yes q low high [] w e = no≢yes e
 count-yes q low high (n ∷ ns) w e =
     let (t, f) = ask-yes q (within low high n) _ w e in
     let same = yes-injective f in
-    let size : n .size ≡ w .found = ap (λ (v : Walk ℕ). v .found) same in
-    let left : ns ≡ w .left = ap (λ (v : Walk ℕ). v .left) same in
+    let size : n .size ≡ w .found = ap (λ (v : Parsed ℕ). v .found) same in
+    let left : ns ≡ w .left = ap (λ (v : Parsed ℕ). v .left) same in
     let inner : (not (n .negative) && leb low (n .size)) ≡ true = and-left (not (n .negative) && leb low (n .size)) (leb (n .size) high) t in
     let l = leb-true low (n .size) (and-right (not (n .negative)) (leb low (n .size)) inner) in
     let m = leb-true (n .size) high (and-right (not (n .negative) && leb low (n .size)) (leb (n .size) high) t) in

@@ -12,7 +12,7 @@ use Rattle.definitions.specs.Bounds.{mostRules, mostClauses}
 use Rattle.definitions.specs.Lists.{_∈_, isEmpty, distinct, joined}
 use Rattle.definitions.specs.Words.{Literal, Clause, Term, variable, constant, Pattern, Rule, Problem, goalAtoms}
 use Rattle.definitions.specs.Sheet.{Line, putByte, lines, Number}
-use Rattle.definitions.specs.Questions.{Asked, no, yes, _>>=_, _>>_, ask, Walk, within, count, kindOf, ruleArgument, clauseArgument, arguments, literal, literals, patternOf, literalOf, patterns, clauseLiterals, restricted, constantsAsked, arityAsked, ruleCounts, ruleBehind, ruleAsked, clauseCount, clauseBehind, clauseAsked, withConstants, withSymbol, withRule, withClause, constantsLine, symbolLine, ruleLine, clauseLine, lineOfKind, columnsAsked, Draft, readLine, accepted, readLines, emptyDraft, read}
+use Rattle.definitions.specs.Questions.{Asked, no, yes, _>>=_, _>>_, ask, Parsed, within, count, kindOf, ruleArgument, clauseArgument, arguments, literal, literals, patternOf, literalOf, patterns, clauseLiterals, restricted, constantsAsked, arityAsked, ruleCounts, ruleBehind, ruleAsked, clauseCount, clauseBehind, clauseAsked, withConstants, withSymbol, withRule, withClause, constantsLine, symbolLine, ruleLine, clauseLine, lineOfKind, columnsAsked, Draft, readLine, accepted, readLines, emptyDraft, read}
 use Rattle.theory.specs.Tests.{by-test, apart, and-left, and-right}
 use Rattle.theory.specs.TableLaws.{enterAll, enter-known, atomsOf, goal-atoms-more}
 use Rattle.theory.specs.AskedLaws.{by-asked}
@@ -178,7 +178,7 @@ unfolding clauseArgument
 clause-argument p n = asked 10 λ e. allows _ (within-between 1 (p .constants) n e)
 
 -- so many, and each has the property
-abbrev Many : {A : Type 0} → (A → Type 0) → ℕ → Walk (List A) → Type 0
+abbrev Many : {A : Type 0} → (A → Type 0) → ℕ → Parsed (List A) → Type 0
 Many P k w = (length (w .found) ≡ k) × Each P (w .found)
 
 module _ {A : Type 0} (argument : Number → Asked A) (InRange : A → Type 0) (in-range : (n : Number) → Gives InRange (argument n)) where

@@ -11,7 +11,7 @@ use borrow.Author.Tests.{eqb-true, eqb-false, leb-true}
 use Rattle.definitions.specs.Lists.{_∈_, isEmpty, filter, joined}
 use Rattle.definitions.specs.Words.{Rule, Clause, Problem, goalAtoms}
 use Rattle.definitions.specs.Sheet.{Line, lines, Number}
-use Rattle.definitions.specs.Questions.{Asked, yes, Walk, count, kindOf, constantsAsked, arityAsked, ruleCounts, ruleAsked, clauseCount, clauseAsked, withConstants, withSymbol, withRule, withClause, constantsLine, symbolLine, ruleLine, clauseLine, lineOfKind, goodLength, columnsAsked, Draft, readLine, accepted, readLines, emptyDraft, read}
+use Rattle.definitions.specs.Questions.{Asked, yes, Parsed, count, kindOf, constantsAsked, arityAsked, ruleCounts, ruleAsked, clauseCount, clauseAsked, withConstants, withSymbol, withRule, withClause, constantsLine, symbolLine, ruleLine, clauseLine, lineOfKind, goodLength, columnsAsked, Draft, readLine, accepted, readLines, emptyDraft, read}
 use Rattle.definitions.specs.Sheets.{Row, rowOf, isKind, ofKind, firstSize, constantsOf}
 use Rattle.theory.specs.Tests.{by-test, apart}
 use Rattle.theory.specs.ListLaws.{in-along}
@@ -19,7 +19,7 @@ use Rattle.theory.specs.AskedLaws.{yes-injective, by-asked, bind-yes, as
 
 -- ── a line of each kind, from its columns behind the kind ──
 
-counted-first : (q low high : ℕ) (ns : Row) (w : Walk ℕ) → count q low high ns ≡ yes w → firstSize ns ≡ w .found
+counted-first : (q low high : ℕ) (ns : Row) (w : Parsed ℕ) → count q low high ns ≡ yes w → firstSize ns ≡ w .found
 unfolding firstSize
 counted-first q low high ns w e = let c = count-yes q low high ns w e in ap firstSize (c .split) ∙ c .size
 
@@ -101,7 +101,7 @@ record LineRead (before : ℕ) (s : Problem) (row : Row) (k : ℕ) (p : Problem)
   size : kind .size ≡ k
   adds : Adds before s rest k p
 
-kind-read : (before : ℕ) (s : Problem) (ns : Row) (k : Walk ℕ) (p : Problem) → kindOf before ns ≡ yes k
+kind-read : (before : ℕ) (s : Problem) (ns : Row) (k : Parsed ℕ) (p : Problem) → kindOf before ns ≡ yes k
     → lineOfKind (k .found) s (k .left) ≡ yes p → LineRead before s ns (k .found) p
 unfolding kindOf
 kind-read zero s ns k p e h =
@@ -118,7 +118,7 @@ kind-read (suc b) s ns k p e h =
     let (j, e₁, e₂) = bind-yes (count 7 2 4 ns) _ k e in
     let (t, e₃) = ask-yes 7 (leb (suc b) (j .found)) _ k e₂ in
     let c = count-yes 7 2 4 ns k (e₁ ∙ e₃) in
-    let no-lower : suc b ≤ k .found = rw (ap (λ (w : Walk ℕ). w .found) (yes-injective e₃)) at (leb-true (suc b) (j .found) t) in
+    let no-lower : suc b ≤ k .found = rw (ap (λ (w : Parsed ℕ). w .found) (yes-injective e₃)) at (leb-true (suc b) (j .found) t) in
     record {
       kind = c .column;
       rest = k .left;
