@@ -1,10 +1,11 @@
--- Document 01, "Questions asked of a call": 2 to 13, in their order, and what is read. Assumes nothing.
+-- Document 01, "Questions asked of a call": 2 to 13, in their order, with 14 between 12 and 13 (document 02, 1/14), and what is read.
+-- Assumes nothing.
 use Prim.Native.Nat.{ℕ, zero, suc, _-_, _%_}
-use mathlib.Core.Bool.{Bool, true, false, not, _&&_}
+use mathlib.Core.Bool.{Bool, true, false, not, _&&_, _||_}
 use mathlib.Core.List.{List, [], _∷_, _++_}
 use lib.Dec.{eqb, leb, ltb}
 use lib.ListN.{length, getD}
-use Rattle.definitions.specs.Lists.{isEmpty, all}
+use Rattle.definitions.specs.Lists.{isEmpty, any, all}
 use Rattle.definitions.specs.Bounds.{sheetBytes, longestLine, mostConstants, mostSymbols, mostArguments, mostVariables, mostRules, mostHeads, mostBody, mostClauses, mostLiterals, mostGoals}
 use Rattle.definitions.specs.Words.{Literal, Clause, Term, variable, constant, Pattern, Rule, Problem, goalAtoms}
 use Rattle.definitions.specs.Instances.{occursIn}
@@ -125,6 +126,24 @@ inHead heads (constant c) = true
 unfoldable pub restricted : Rule → Bool
 restricted r = all (λ (p : Pattern). all (inHead (r .heads)) (p .terms)) (r .body)
 
+-- 14: the term is a variable that stands in one of the literals
+unfoldable pub isShared : List Pattern → Term → Bool
+isShared others (variable v) = occursIn others v
+isShared others (constant c) = false
+
+-- a head stands alone, or shares a variable with another one
+unfoldable pub linked : List Pattern → Pattern → Bool
+linked others p = isEmpty others || any (isShared others) (p .terms)
+
+-- so does each head from here on, the others being those before it and those behind it
+unfoldable pub eachLinked : List Pattern → List Pattern → Bool
+eachLinked before [] = true
+eachLinked before (p ∷ behind) = linked (before ++ behind) p && eachLinked (before ++ (p ∷ [])) behind
+
+-- 14: "of two or three heads, each shares a variable with another"
+unfoldable pub connected : Rule → Bool
+connected r = eachLinked [] (r .heads)
+
 -- 8 and 11: the constants of a line of kind 1
 unfoldable pub constantsAsked : List Number → Asked ℕ
 constantsAsked ns = do
@@ -151,7 +170,7 @@ ruleCounts ns = do
   bodyCount ← count 8 0 mostBody (headCount .left)
   yes (record { found = record { heads = headCount .found; body = bodyCount .found }; left = bodyCount .left })
 
--- 10 to 12: the rule that counts and the columns behind them give
+-- 10 to 12 and 14: the rule that counts and the columns behind them give
 unfoldable pub ruleBehind : ℕ → List ℕ → Parsed RuleCounts → Asked Rule
 ruleBehind constants arities counts = do
   heads ← patterns constants arities (counts .found .heads) (counts .left)
@@ -159,9 +178,10 @@ ruleBehind constants arities counts = do
   ask 11 (isEmpty (body .left))
   let r : Rule = record { heads = heads .found; body = body .found }
   ask 12 (restricted r)
+  ask 14 (connected r)
   yes r
 
--- 8 to 12: the rule of a line of kind 3, where so many rules stand already
+-- 8 to 12 and 14: the rule of a line of kind 3, where so many rules stand already
 unfoldable pub ruleAsked : ℕ → List ℕ → ℕ → List Number → Asked Rule
 ruleAsked constants arities rules ns = do
   counts ← ruleCounts ns
@@ -199,7 +219,7 @@ withRule p r = record { constants = p .constants; arities = p .arities; rules = 
 unfoldable pub withClause : Problem → Clause → Problem
 withClause p c = record { constants = p .constants; arities = p .arities; rules = p .rules; clauses = p .clauses ++ (c ∷ []) }
 
--- 8 to 13, of a line of each kind
+-- 8 to 14, of a line of each kind
 unfoldable pub constantsLine : Problem → List Number → Asked Problem
 constantsLine p ns = do
   n ← constantsAsked ns
@@ -248,7 +268,7 @@ pub record Draft : Type 0 where
   pub before : ℕ
   pub problem : Problem
 
--- 4 to 13, of one line
+-- 4 to 14, of one line
 unfoldable pub readLine : Draft → Line → Asked Draft
 readLine d l = do
   ns ← columnsAsked l
@@ -278,5 +298,5 @@ read sheet =
 
 -- names every definition of this module, for a theorem that computes with all of them
 unfoldable pub Questions·all : Unit {0}
-unfolding _>>=_ _>>_ ask asNumber columns within count kindOf ruleArgument clauseArgument arguments literal literals patternOf literalOf patterns clauseLiterals inHead restricted constantsAsked arityAsked ruleCounts ruleBehind ruleAsked clauseCount clauseBehind clauseAsked withConstants withSymbol withRule withClause constantsLine symbolLine ruleLine clauseLine lineOfKind goodLength columnsAsked readLine readLines emptyDraft read
+unfolding _>>=_ _>>_ ask asNumber columns within count kindOf ruleArgument clauseArgument arguments literal literals patternOf literalOf patterns clauseLiterals inHead restricted isShared linked eachLinked connected constantsAsked arityAsked ruleCounts ruleBehind ruleAsked clauseCount clauseBehind clauseAsked withConstants withSymbol withRule withClause constantsLine symbolLine ruleLine clauseLine lineOfKind goodLength columnsAsked readLine readLines emptyDraft read
 Questions·all = tt

@@ -31,6 +31,10 @@ claimed t = t .question ∷ t .line ∷ []
 unfoldable pub declared : List String
 declared = "   1   2" ∷ "   2   0" ∷ "   2   1" ∷ []
 
+-- four lines: symbol 3 has two arguments
+unfoldable pub withPairs : List String
+withPairs = declared ++ ("   2   2" ∷ [])
+
 -- a clause of 136 bytes
 unfoldable pub longest : List ℕ
 longest = bytes "   4   8" ++ joined bytes (replicate 8 "   1   1   1   1")
@@ -162,7 +166,7 @@ sheets =
     record { sheet = text (declared ++ ("   3  -1   0   1" ∷ [])); question = 8; line = 4 } ∷
     record { sheet = text (declared ++ ("   3   1   3   1   1   1   1" ∷ [])); question = 8; line = 4 } ∷
     record { sheet = text (declared ++ ("   3   1  -1   1" ∷ [])); question = 8; line = 4 } ∷
-    record { sheet = text (declared ++ ("   3   3   2   1   1   1   1   1" ∷ [])); question = 0; line = 0 } ∷
+    record { sheet = text (declared ++ ("   3   3   2   2   1   2   1   2   1   2   1   2   1" ∷ [])); question = 0; line = 0 } ∷
     -- the literal count
     record { sheet = text (declared ++ ("   4" ∷ [])); question = 8; line = 4 } ∷
     record { sheet = text (declared ++ ("   4   9   1   1   1   1   1   1   1   1   1" ∷ [])); question = 8; line = 4 } ∷
@@ -200,7 +204,7 @@ sheets =
     record { sheet = text (declared ++ ("   3   1   0   2   0" ∷ [])); question = 10; line = 4 } ∷
     record { sheet = text (declared ++ ("   3   1   0   2   7" ∷ [])); question = 10; line = 4 } ∷
     record { sheet = text (declared ++ ("   3   1   0   2  -3" ∷ [])); question = 10; line = 4 } ∷
-    record { sheet = text (declared ++ ("   3   2   1   2   6   2  -2  -2   6" ∷ [])); question = 0; line = 0 } ∷
+    record { sheet = text (withPairs ++ ("   3   2   1   2   6   3  -2   6  -2   6" ∷ [])); question = 0; line = 0 } ∷
     -- each column is present
     record { sheet = text (declared ++ ("   3   1   0" ∷ [])); question = 10; line = 4 } ∷
     record { sheet = text (declared ++ ("   3   1   0   2" ∷ [])); question = 10; line = 4 } ∷
@@ -223,8 +227,33 @@ sheets =
     record { sheet = text (declared ++ ("   3   1   1   1   2   1" ∷ [])); question = 12; line = 4 } ∷
     record { sheet = text (declared ++ ("   3   1   1   2   1   2   2" ∷ [])); question = 12; line = 4 } ∷
     record { sheet = text (declared ++ ("   3   1   2   2   1   2   1  -2   2" ∷ [])); question = 12; line = 4 } ∷
-    record { sheet = text (declared ++ ("   3   2   1   2   1   2   2   2   2" ∷ [])); question = 0; line = 0 } ∷
+    record { sheet = text (withPairs ++ ("   3   2   1   2   1   3   1   2   2   2" ∷ [])); question = 0; line = 0 } ∷
     record { sheet = text (declared ++ ("   3   1   1   1   2  -2" ∷ [])); question = 0; line = 0 } ∷
+    -- 14: of two heads each shares a variable with the other, whatever their signs; a shared constant is none
+    record { sheet = text (withPairs ++ ("   3   2   0   2   1   2   2" ∷ [])); question = 14; line = 5 } ∷
+    record { sheet = text (withPairs ++ ("   3   2   0   2   1   2   1" ∷ [])); question = 0; line = 0 } ∷
+    record { sheet = text (withPairs ++ ("   3   2   0  -2   6   3   1   6" ∷ [])); question = 0; line = 0 } ∷
+    record { sheet = text (withPairs ++ ("   3   2   0   2  -1   2  -1" ∷ [])); question = 14; line = 5 } ∷
+    record { sheet = text (withPairs ++ ("   3   2   0   3   1  -1   3   2  -1" ∷ [])); question = 14; line = 5 } ∷
+    -- a head without variables may only stand alone
+    record { sheet = text (withPairs ++ ("   3   1   0   1" ∷ "   3   1   0   3  -1  -2" ∷ [])); question = 0; line = 0 } ∷
+    record { sheet = text (withPairs ++ ("   3   2   0   1   1" ∷ [])); question = 14; line = 5 } ∷
+    record { sheet = text (withPairs ++ ("   3   2   0   1   2   1" ∷ [])); question = 14; line = 5 } ∷
+    record { sheet = text (withPairs ++ ("   3   2   0   2   1   1" ∷ [])); question = 14; line = 5 } ∷
+    -- of three heads one is apart
+    record { sheet = text (withPairs ++ ("   3   3   0   2   1   2   2   2   2" ∷ [])); question = 14; line = 5 } ∷
+    record { sheet = text (withPairs ++ ("   3   3   0   2   2   2   1   2   2" ∷ [])); question = 14; line = 5 } ∷
+    record { sheet = text (withPairs ++ ("   3   3   0   2   2   2   2   2   1" ∷ [])); question = 14; line = 5 } ∷
+    record { sheet = text (withPairs ++ ("   3   3   0   2   1   2   1   1" ∷ [])); question = 14; line = 5 } ∷
+    -- a chain: 1-2 and 2-3, 1-3 and 3-2, 2-1 and 1-3
+    record { sheet = text (withPairs ++ ("   3   3   0   2   1   3   1   2   2   2" ∷ [])); question = 0; line = 0 } ∷
+    record { sheet = text (withPairs ++ ("   3   3   0   2   1   2   2   3   1   2" ∷ [])); question = 0; line = 0 } ∷
+    record { sheet = text (withPairs ++ ("   3   3   0   3   1   2   2   1   2   2" ∷ [])); question = 0; line = 0 } ∷
+    -- the body joins no heads
+    record { sheet = text (withPairs ++ ("   3   2   1   2   1   2   2   3   1   2" ∷ [])); question = 14; line = 5 } ∷
+    -- after the variables of the body, which are asked after a column left over
+    record { sheet = text (withPairs ++ ("   3   2   1   2   1   2   2   2   3" ∷ [])); question = 12; line = 5 } ∷
+    record { sheet = text (withPairs ++ ("   3   2   1   2   1   2   2   2   3   1" ∷ [])); question = 11; line = 5 } ∷
     -- 13: at most 64 goal atoms, whatever their signs
     record { sheet = text sixtyFour; question = 0; line = 0 } ∷
     record { sheet = text (sixtyFour ++ ("   4   3  -1   1   2   2  -2  32" ∷ [])); question = 0; line = 0 } ∷
@@ -236,5 +265,5 @@ sheets =
 
 -- each sheet is refused by its question at its line, or accepted
 pub refusals : map found sheets ≡ map claimed sheets
-unfolding sheets declared longest sixtyFour found claimed numbersOf Text·all Lists·all Words·all Instances·all Sheet·all Questions·all
+unfolding sheets declared withPairs longest sixtyFour found claimed numbersOf Text·all Lists·all Words·all Instances·all Sheet·all Questions·all
 refusals = refl

@@ -1,12 +1,13 @@
--- Document 01, "Words": what is said of sheets and calls: accepted, answers, keeps. Assumes nothing.
+-- Document 01, "Words": what is said of sheets and calls: accepted, answers, keeps; document 02, 1/14: a head among others. Assumes nothing.
 use Prim.Native.Nat.{ℕ, _≤_}
 use mathlib.Core.Path.{_≡_}
-use mathlib.Core.Bool.{Bool, false, not, _&&_}
+use mathlib.Core.Bool.{Bool, true, false, not, _&&_}
 use mathlib.Core.List.{List, [], _∷_, _++_, map}
 use lib.Dec.{eqb}
 use lib.ListN.{take, drop}
 use Rattle.definitions.specs.Lists.{_∈_, filter, joined}
-use Rattle.definitions.specs.Words.{Problem}
+use Rattle.definitions.specs.Words.{variable, Pattern, Rule, Problem}
+use Rattle.definitions.specs.Instances.{occursIn}
 use Rattle.definitions.specs.Sheet.{Line, lines, Number, plus, number, decimal}
 use Rattle.definitions.specs.Questions.{no, yes, columns, accepted, read}
 use Rattle.definitions.specs.Listing.{answerNumber}
@@ -55,6 +56,23 @@ pub record Keeps (first second : List ℕ) : Type 0 where
   pub symbols : (more : List Row) × (ofKind 2 second ≡ ofKind 2 first ++ more)
   pub rules : (r : Row) → r ∈ ofKind 3 first → r ∈ ofKind 3 second
   pub clauses : (r : Row) → r ∈ ofKind 4 first → r ∈ ofKind 4 second
+
+-- a head of a rule, and "another": the heads before it and behind it, of which there are some
+pub record HeadAmong (r : Rule) : Type 0 where
+  pub head : Pattern
+  pub before : List Pattern
+  pub behind : List Pattern
+  pub heads : r .heads ≡ before ++ head ∷ behind
+  pub several : before ++ behind ≡ [] → ⊥
+
+-- it "shares a variable with another", or none of its variables stands in another
+pub record Shares {r : Rule} (h : HeadAmong r) : Type 0 where
+  pub shared : ℕ
+  pub here : variable shared ∈ h .head .terms
+  pub there : occursIn (h .before ++ h .behind) shared ≡ true
+
+abbrev pub Apart : {r : Rule} → HeadAmong r → Type 0
+Apart h = (v : ℕ) → variable v ∈ h .head .terms → occursIn (h .before ++ h .behind) v ≡ false
 
 -- names every definition of this module, for a theorem that computes with all of them
 unfoldable pub Sheets·all : Unit {0}

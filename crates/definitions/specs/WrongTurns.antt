@@ -140,11 +140,11 @@ onGoalAtoms =
 -- an atom outside the table, or unset, is neither true nor false
 unfoldable pub onUnsetAtoms : List Trial
 onUnsetAtoms =
-    -- p and not c give false; p. Reading c as false in the head fires the rule
+    -- p(X) and not c(X) give false; p(1). Reading c(1) as false in the head fires the rule
     record {
-      sheet = "   1   1" ∷ "   2   0" ∷ "   2   0" ∷ "   3   2   0   1  -2" ∷ "   4   1   1" ∷ [];
+      sheet = "   1   1" ∷ "   2   1" ∷ "   2   1" ∷ "   3   2   0   1   1  -2   1" ∷ "   4   1   1   1" ∷ [];
       budget = 1000000;
-      listing = "   5   1   1   0           0           0" ∷ "   7   1" ∷ [];
+      listing = "   5   1   1   0           0           0" ∷ "   7   1   1" ∷ [];
     } ∷
     -- p gives not c, not c gives false; p. Reading c as false, the first body is true already, and its instance is not logged
     record {
@@ -204,22 +204,22 @@ onConflicts =
       budget = 1000000;
       listing = "   5   0   2   0           1           2" ∷ [];
     } ∷
-    -- p and q give false, not q gives false; p or q. Keeping q false, which was flipped, when p flips: UNSAT
+    -- p(X) and q(X) give false, not q(X) gives false; p(1) or q(1). Keeping q(1) false, which was flipped, when p(1) flips: UNSAT
     record {
       sheet =
           "   1   1" ∷
-          "   2   0" ∷
-          "   2   0" ∷
-          "   3   2   0   1   2" ∷
-          "   3   1   0  -2" ∷
-          "   4   2   1   2" ∷ [];
+          "   2   1" ∷
+          "   2   1" ∷
+          "   3   2   0   1   1   2   1" ∷
+          "   3   1   0  -2   1" ∷
+          "   4   2   1   1   2   1" ∷ [];
       budget = 1000000;
       listing =
           "   5   1   2   2           2           2" ∷
-          "   6   1   2  -1  -2" ∷
-          "   6   2   1   2" ∷
-          "   7  -1" ∷
-          "   7   2" ∷ [];
+          "   6   1   2  -1   1  -2   1" ∷
+          "   6   2   1   2   1" ∷
+          "   7  -1   1" ∷
+          "   7   2   1" ∷ [];
     } ∷
     -- q gives false; p or q. Undoing all decisions and not only the latest one: UNSAT
     record {
@@ -273,16 +273,16 @@ onDecisions =
 -- rules: which instance, which body literal, and what is logged
 unfoldable pub onRules : List Trial
 onRules =
-    -- a(X5) and a(X2) give false; a(1); a(2). Ordering fillings by where the heads show the variables: another clause is logged
+    -- a(X5,X3) and a(X2,X3) give false; a(1,1); a(2,1). Ordering fillings by where the heads show the variables: another clause is logged
     record {
       sheet =
           "   1   2" ∷
-          "   2   1" ∷
-          "   3   2   0   1   5   1   2" ∷
-          "   4   1   1   1" ∷
-          "   4   1   1   2" ∷ [];
+          "   2   2" ∷
+          "   3   2   0   1   5   3   1   2   3" ∷
+          "   4   1   1   1   1" ∷
+          "   4   1   1   2   1" ∷ [];
       budget = 1000000;
-      listing = "   5   0   2   1           0           1" ∷ "   6   1   2  -1   2  -1   1" ∷ [];
+      listing = "   5   0   2   1           0           1" ∷ "   6   1   2  -1   2   1  -1   1   1" ∷ [];
     } ∷
     -- a(X1) gives false; a(2); a(1). Matching heads against the table in its order: another clause is logged
     record {
@@ -350,39 +350,39 @@ onRules =
           "   7   1" ∷
           "   7   2" ∷ [];
     } ∷
-    -- p and q give not p; p; q. Writing the body literal that equals a negated head twice: 3 literals
+    -- p(X) and q(X) give not p(X); p(1); q(1). Writing the body literal that equals a negated head twice: 3 literals
     record {
       sheet =
           "   1   1" ∷
-          "   2   0" ∷
-          "   2   0" ∷
-          "   3   2   1   1   2  -1" ∷
-          "   4   1   1" ∷
-          "   4   1   2" ∷ [];
+          "   2   1" ∷
+          "   2   1" ∷
+          "   3   2   1   1   1   2   1  -1   1" ∷
+          "   4   1   1   1" ∷
+          "   4   1   2   1" ∷ [];
       budget = 1000000;
-      listing = "   5   0   2   1           0           1" ∷ "   6   1   2  -1  -2" ∷ [];
+      listing = "   5   0   2   1           0           1" ∷ "   6   1   2  -1   1  -2   1" ∷ [];
     } ∷
-    -- p gives c, q and c give false, q gives not c; not p or q. Not logging a clause that the log holds already, from another rule:
-    -- 2 logged, and c stays unset
+    -- p(X) gives c(X), q(X) and c(X) give false, q(X) gives not c(X); not p(1) or q(1). Not logging a clause that the log holds already,
+    -- from another rule: 2 logged, and c(1) stays unset
     record {
       sheet =
           "   1   1" ∷
-          "   2   0" ∷
-          "   2   0" ∷
-          "   2   0" ∷
-          "   3   1   1   1   2" ∷
-          "   3   2   0   3   2" ∷
-          "   3   1   1   3  -2" ∷
-          "   4   2  -1   3" ∷ [];
+          "   2   1" ∷
+          "   2   1" ∷
+          "   2   1" ∷
+          "   3   1   1   1   1   2   1" ∷
+          "   3   2   0   3   1   2   1" ∷
+          "   3   1   1   3   1  -2   1" ∷
+          "   4   2  -1   1   3   1" ∷ [];
       budget = 1000000;
       listing =
           "   5   1   3   3           2           1" ∷
-          "   6   1   2  -1   2" ∷
-          "   6   2   2  -3  -2" ∷
-          "   6   3   2  -3  -2" ∷
-          "   7  -1" ∷
-          "   7   3" ∷
-          "   7  -2" ∷ [];
+          "   6   1   2  -1   1   2   1" ∷
+          "   6   2   2  -3   1  -2   1" ∷
+          "   6   3   2  -3   1  -2   1" ∷
+          "   7  -1   1" ∷
+          "   7   3   1" ∷
+          "   7  -2   1" ∷ [];
     } ∷
     []
 
