@@ -16,6 +16,7 @@ pub mod AskedLaws
 pub mod Reading
 pub mod Inclusion
 pub mod Limits
+pub mod Connected
 pub mod Sources
 pub mod Invariants
 pub mod ListingLaws

@@ -12,7 +12,7 @@ use Rattle.definitions.specs.Bounds.{mostRules, mostClauses}
 use Rattle.definitions.specs.Lists.{_∈_, isEmpty, distinct, joined}
 use Rattle.definitions.specs.Words.{Literal, Clause, Term, variable, constant, Pattern, Rule, Problem, goalAtoms}
 use Rattle.definitions.specs.Sheet.{Line, putByte, lines, Number}
-use Rattle.definitions.specs.Questions.{Asked, no, yes, _>>=_, _>>_, ask, Parsed, within, count, kindOf, ruleArgument, clauseArgument, arguments, literal, literals, patternOf, literalOf, patterns, clauseLiterals, restricted, constantsAsked, arityAsked, ruleCounts, ruleBehind, ruleAsked, clauseCount, clauseBehind, clauseAsked, withConstants, withSymbol, withRule, withClause, constantsLine, symbolLine, ruleLine, clauseLine, lineOfKind, columnsAsked, Draft, readLine, accepted, readLines, emptyDraft, read}
+use Rattle.definitions.specs.Questions.{Asked, no, yes, _>>=_, _>>_, ask, Parsed, within, count, kindOf, ruleArgument, clauseArgument, arguments, literal, literals, patternOf, literalOf, patterns, clauseLiterals, restricted, connected, constantsAsked, arityAsked, ruleCounts, ruleBehind, ruleAsked, clauseCount, clauseBehind, clauseAsked, withConstants, withSymbol, withRule, withClause, constantsLine, symbolLine, ruleLine, clauseLine, lineOfKind, columnsAsked, Draft, readLine, accepted, readLines, emptyDraft, read}
 use Rattle.theory.specs.Tests.{by-test, apart, and-left, and-right}
 use Rattle.theory.specs.TableLaws.{enterAll, enter-known, atomsOf, goal-atoms-more}
 use Rattle.theory.specs.AskedLaws.{by-asked}
@@ -43,6 +43,7 @@ pub record RuleLimits (p : Problem) (r : Rule) : Type 0 where
   pub heads : length (r .heads) ≤ 3
   pub body : length (r .body) ≤ 2
   pub isRestricted : restricted r ≡ true
+  pub isConnected : connected r ≡ true
   pub eachHead : (x : Pattern) → x ∈ r .heads → PatternLimits p x
   pub eachBody : (x : Pattern) → x ∈ r .body → PatternLimits p x
 
@@ -249,12 +250,14 @@ rule-asked p ns =
     then (patterns-limits p (counts .found .body) (heads .left)) λ body bl.
     asked 11 λ _.
     asked 12 λ safe.
+    asked 14 λ linked.
     allows _ (
       record {
         someHead = omega (arith, hl .0, h .0 .0);
         heads = omega (arith, hl .0, h .0 .1);
         body = omega (arith, bl .0, h .1 .1);
         isRestricted = safe;
+        isConnected = linked;
         eachHead = hl .1;
         eachBody = bl .1;
       },
@@ -296,6 +299,7 @@ module _ (p : Problem) (rs : List Rule) (cs : List Clause) where
         heads = h .heads;
         body = h .body;
         isRestricted = h .isRestricted;
+        isConnected = h .isConnected;
         eachHead = λ x m. pattern-beside (h .eachHead x m);
         eachBody = λ x m. pattern-beside (h .eachBody x m);
       }

@@ -2,7 +2,7 @@
 use Prim.Native.Nat.{ℕ, _*_, _≤_}
 use mathlib.Core.Path.{_≡_, refl, sym, ap, subst}
 use mathlib.Core.Logic.{_⊎_, inl, inr}
-use mathlib.Core.Bool.{Bool, true, false, not}
+use mathlib.Core.Bool.{Bool, true, false, not, _||_}
 use mathlib.Core.Option.{Option, none, some}
 use mathlib.Core.List.{List, [], _∷_, _++_, List·Memᴰ·head, List·Memᴰ·tail, List·Memᴰ·cases-cons, List·Memᴰ·append-cases, List·Memᴰ·not-nil, Memᴰ·append-left, Memᴰ·append-right, Memᴰ·cast, head-eq-of-cons-eq, tail-eq-of-cons-eq}
 use native.Mathlib.Omega.{arith}
@@ -76,6 +76,11 @@ module _ {A : Type 0} (p : A → Bool) where
 
   pub none-any : (xs : List A) → ((x : A) → x ∈ xs → p x ≡ false) → any p xs ≡ false
   none-any xs h = by-test (any p xs) (λ e. let (x, m, q) = any-some xs e in cc (h x m)) (λ e. e)
+
+  pub any-append : (xs ys : List A) → any p (xs ++ ys) ≡ (any p xs || any p ys)
+  unfolding any
+  any-append [] ys = refl
+  any-append (x ∷ xs) ys = let h = any-append xs ys in by-test (p x) (λ e. cc) (λ e. cc)
 
   pub all-each : (xs : List A) → all p xs ≡ true → (x : A) → x ∈ xs → p x ≡ true
   unfolding all
