@@ -1,13 +1,13 @@
 -- Lists as arrays: what stands at a place of zeros, of a list whose elements have something in common, after a store, in a part, and in an
 -- array with a list at its front. Assumes nothing.
 use Prim.Native.Nat.{ℕ, zero, suc, _+_, _-_, _≤_, _<_}
-use mathlib.Core.Path.{_≡_, refl, _∙_, ap}
+use mathlib.Core.Path.{_≡_, refl, sym, _∙_, ap}
 use mathlib.Core.Option.{some}
-use mathlib.Core.List.{List, [], _∷_, map, head-eq-of-cons-eq, tail-eq-of-cons-eq, List·Memᴰ·head, List·Memᴰ·tail}
+use mathlib.Core.List.{List, [], _∷_, _++_, map, head-eq-of-cons-eq, tail-eq-of-cons-eq, List·Memᴰ·head, List·Memᴰ·tail}
 use native.Mathlib.Numerals.{add-one, add-two, add-three, add-four}
 use native.Mathlib.Omega.{arith}
-use lib.ListN.{length, getD, set, take, drop, replicate, getElem?, length-drop}
-use lib.Seq.{drop-cons}
+use lib.ListN.{length, getD, set, take, drop, replicate, getElem?, length-drop, take-append-drop}
+use lib.Seq.{drop-cons, length-take-le, take-append-add}
 use Rattle.definitions.specs.Lists.{_∈_}
 use Rattle.theory.specs.Tests.{apart, none≢some, some-injective}
 use Rattle.encoding.specs.CountLaws.{left-none, by-order}
@@ -65,6 +65,13 @@ module _ (l : List ℕ) (at : ℕ) where
       rw (add-one at, add-two at, add-three at, add-four at)
       (drop-cons l at 0 (omega arith)
       ∙ rw (drop-cons l (suc at) 0 (omega arith), drop-cons l (suc (suc at)) 0 (omega arith), drop-cons l (suc (suc (suc at))) 0 (omega arith)))
+
+  pub take-four : at + 3 < length l → take (at + 4) l ≡ take at l ++ (getD l at 0 ∷ getD l (at + 1) 0 ∷ getD l (at + 2) 0 ∷ getD l (at + 3) 0 ∷ [])
+  take-four h =
+      ap (λ (n : ℕ). take (n + 4) l) (sym (length-take-le at l (omega arith)))
+      ∙ ap (take (length (take at l) + 4)) (sym (take-append-drop at l))
+      ∙ take-append-add (take at l) (drop at l) 4
+      ∙ ap (λ (r : List ℕ). take at l ++ take 4 r) (drop-four h)
 
   pub drop-few : length l ≤ at + 3 → length (drop at l) ≤ 3
   drop-few h = omega (arith, length-drop at l)

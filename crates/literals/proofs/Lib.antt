@@ -1,6 +1,6 @@
 pub mod Arguments
 pub mod Terms
 pub mod Literals
-pub mod CoverTurns
+pub mod HeadTurns
 pub mod Entries
 pub mod RulePlaces

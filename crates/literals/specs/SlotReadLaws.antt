@@ -2,24 +2,21 @@
 use Prim.Native.Nat.{ℕ, zero, suc, _+_, _-_, _≤_}
 use mathlib.Core.Path.{_≡_, refl, sym, ap, subst, _∙_}
 use mathlib.Core.Bool.{Bool, true, false, not, _&&_}
-use mathlib.Core.List.{List, [], _∷_, _++_, map, append-assoc, List·Memᴰ·tail}
+use mathlib.Core.List.{List, [], _∷_, _++_, map, append-assoc}
 use native.Mathlib.Omega.{arith}
 use lib.Dec.{leb}
 use lib.ListN.{length, getD, drop, length-drop}
 use lib.Seq.{drop-drop}
-use borrow.Author.Tests.{ne-eqb, lt-ltb, le-ltb}
-use Rattle.definitions.specs.Lists.{all, joined}
 use Rattle.definitions.specs.Words.{Term, variable, constant, Pattern}
 use Rattle.definitions.specs.Instances.{termValue, ground}
 use Rattle.definitions.specs.Sheet.{Number}
-use Rattle.definitions.specs.Questions.{Asked, no, yes, _>>=_, _>>_, ask, Parsed, within, ruleArgument, clauseArgument, arguments, literal, literals, patternOf, literalOf, clauseLiterals, inHead, restricted}
+use Rattle.definitions.specs.Questions.{Asked, no, yes, _>>=_, _>>_, ask, Parsed, within, ruleArgument, clauseArgument, arguments, literal, literals, patternOf, literalOf, clauseLiterals}
 use Rattle.theory.specs.Tests.{by-test, apart, true-and-false}
 use Rattle.theory.specs.ListLaws.{Each, each-nil, each-cons}
 use Rattle.theory.specs.AskedLaws.{no≢yes, yes-injective, by-asked, bind-yes, ask-yes}
 use Rattle.theory.specs.Limits.{between, within-between}
-use Rattle.literals.specs.SlotReads.{argument, covered, allCovered}
-use Rattle.encoding.specs.Slots.{termWord, termWords, patternWords, slotWords}
-use Rattle.encoding.specs.SlotLaws.{WordTells, InSlot, first-in, second-in, third-in, slots-have}
+use Rattle.literals.specs.SlotReads.{argument}
+use Rattle.encoding.specs.SlotLaws.{WordTells, InSlot}
 
 -- ── a walk in two parts ──
 
@@ -352,7 +349,7 @@ patterns-read rule constants arities =
       inRange = arguments-in-range rule constants _ (r .behind) (r .args) (r .read);
     })
 
--- ── question 12 over slots ──
+-- ── what is read has room in a slot ──
 
 range-tells : (rule : Bool) (constants : ℕ) (t : Term) → TermInRange rule constants t → WordTells t
 range-tells rule constants (variable v) h = (h .1, h .2)
@@ -364,38 +361,3 @@ read-in-slot rule constants arities h x r =
       few = omega (arith, r .terms, h (x .symbol - 1));
       tells = λ t m. range-tells rule constants t (r .inRange t m);
     }
-
-and-three : (p q r h : Bool) → (p && q && r && h) ≡ ((p && (q && (r && true))) && h)
-and-three false q r h = refl
-and-three true false r h = refl
-and-three true true false h = refl
-and-three true true true h = refl
-
-module _ (hs : List Pattern) (slots : Each InSlot hs) where
-  term-covered : (t : Term) → WordTells t → covered (slotWords hs) (termWord t) ≡ inHead hs t
-  unfolding covered termWord inHead
-  term-covered (variable v) h =
-      rw (ne-eqb v 0 (λ e. omega (arith, h .0)), le-ltb 6 v (h .1)) (slots-have v (h .0) (h .1) hs slots)
-  term-covered (constant c) h = rw (ne-eqb (6 + c) 0 (λ e. omega arith), lt-ltb 6 (6 + c) (omega arith))
-
-  terms-covered : (s : ℕ) (ts : List Term) (ws : List ℕ) → length ts ≤ 3 → Each WordTells ts
-      → allCovered (slotWords hs) (s ∷ termWords ts ++ ws) ≡ (all (inHead hs) ts && allCovered (slotWords hs) ws)
-  unfolding allCovered termWords all covered
-  terms-covered s [] ws few h = refl
-  terms-covered s (a ∷ []) ws few h =
-      rw (term-covered a (h a (first-in a _))) (and-three (inHead hs a) true true (allCovered (slotWords hs) ws))
-  terms-covered s (a ∷ b ∷ []) ws few h =
-      rw (term-covered a (h a (first-in a _)), term-covered b (h b (second-in a b _)))
-      (and-three (inHead hs a) (inHead hs b) true (allCovered (slotWords hs) ws))
-  terms-covered s (a ∷ b ∷ c ∷ []) ws few h =
-      rw (term-covered a (h a (first-in a _)), term-covered b (h b (second-in a b _)), term-covered c (h c (third-in a b c _)))
-      (and-three (inHead hs a) (inHead hs b) (inHead hs c) (allCovered (slotWords hs) ws))
-  terms-covered s (a ∷ b ∷ c ∷ d ∷ ts) ws few h = absurd (omega arith)
-
-  pub covered-restricted : (bs : List Pattern) → Each InSlot bs → allCovered (slotWords hs) (slotWords bs) ≡ restricted (record { heads = hs; body = bs })
-  unfolding slotWords joined patternWords restricted all allCovered
-  covered-restricted [] h = refl
-  covered-restricted (x ∷ bs) h =
-      let here = h x (first-in x bs) in
-      terms-covered _ (x .terms) (slotWords bs) (here .few) (here .tells)
-      ∙ rw (covered-restricted bs (λ y m. h y (List·Memᴰ·tail m)))
