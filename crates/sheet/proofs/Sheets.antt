@@ -256,7 +256,7 @@ module _ {sheet : List ℕ} {start held : Arrays} {s : Sizes} {before from line 
             kind-ends start (reached .empty) (reached .wide) (reached .draft) (reached .started) _ _ _ kind some (first-word asks none) here answer after
             (rw (reached .sizes, reached .holds) at line-held)
 
-        -- one of questions 8 to 13 is answered no
+        -- one of questions 8 to 14 is answered no
         pub line-stop : {q : ℕ} → answer ≡ No q → read sheet ≡ refused q line
         line-stop {q} e = line-refused q (ends-no start (reached .empty) (reached .wide) _ kind answer after ended q e)
 

@@ -107,7 +107,7 @@ ClauseEntersHeld (yes c) r s before after =
     (r ≡ clauseAnswer (clauseEntered c s (before .literals) (before .table) (before .index)) s)
     × (after ≡ withEntered before (set (before .starts) (s .clauses + 1) (s .literals + length c)) (clauseEntered c s (before .literals) (before .table) (before .index)))
 
--- 8 to 13 of a line of kind k, of its columns behind the kind
+-- 8 to 14 of a line of kind k, of its columns behind the kind
 abbrev pub LineHeld : ℕ → List Number → LineRead → Sizes → Arrays → Arrays → Type 0
 LineHeld k ns r s before after =
     elim (eqb k 1) [
