@@ -5,19 +5,22 @@
 -- `definitions`; what is taken from the theory are proofs. Assumes nothing.
 use Prim.Native.Nat.{ℕ}
 use mathlib.Core.Path.{_≡_}
+use mathlib.Core.Bool.{false}
 use mathlib.Core.List.{List}
-use Rattle.definitions.specs.Words.{Problem}
+use Rattle.definitions.specs.Lists.{_∈_}
+use Rattle.definitions.specs.Words.{Rule, Problem}
 use Rattle.definitions.specs.Instances.{taskOf}
 use Rattle.definitions.specs.Meaning.{Choice, Fails, Assignment, Satisfies}
-use Rattle.definitions.specs.Questions.{accepted, read}
+use Rattle.definitions.specs.Questions.{connected, accepted, read}
 use Rattle.definitions.specs.Verdicts.{FirstChoice, SpentWhen, FullWhen}
 use Rattle.definitions.specs.Call.{Comes, FromSearch}
-use Rattle.definitions.specs.Sheets.{Accepted, Answers, Keeps}
+use Rattle.definitions.specs.Sheets.{Accepted, Answers, Keeps, HeadAmong, Shares, Apart}
 use Rattle.definitions.specs.declared.Verdict.{Verdict}
 use Rattle.definitions.specs.declared.Verdict.the-variants.{Unsat, Unknown, Spent, Full}
 use Rattle.theory.specs.Theorems.{unsat, unknown, spent, full}
 use Rattle.theory.specs.CallLaws.{call-comes, answer-from-search, its-search}
 use Rattle.theory.specs.Demand3.{never-satisfied, never-unknown}
+use Rattle.theory.specs.Connected.{connected-heads, head-apart}
 
 module _ (sheet : List ℕ) (budget : ℕ) (room : List ℕ) where
   -- ── demand 1 ──
@@ -62,3 +65,13 @@ module _ (first second : List ℕ) (budget : ℕ) (room : List ℕ) (answered : 
   -- and no call, at whatever budget and room, answers it UNKNOWN.
   pub demand-3-calls : (otherBudget : ℕ) (otherRoom : List ℕ) → Answers second otherBudget otherRoom Unknown → ⊥
   demand-3-calls = never-unknown first second budget room answered accepts keeps
+
+-- ── the change requests of document 02 ──
+
+-- 1/14. Of two or three heads of a rule in an accepted sheet, each shares a variable with another,
+pub request-1 : (sheet : List ℕ) (p : Problem) → read sheet ≡ accepted p → (r : Rule) → r ∈ p .rules → (h : HeadAmong r) → Shares h
+request-1 = connected-heads
+
+-- and question 14 turns a rule away only if it has a head that doesn't.
+pub request-1-only : (r : Rule) → connected r ≡ false → (h : HeadAmong r) × Apart h
+request-1-only = head-apart
