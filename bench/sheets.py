@@ -119,8 +119,9 @@ def no_first(count):
 
 # ---- c: joins
 
-def join(heads, body, arities, constants, facts, free, seed):
-    """One rule over random facts; some facts are free, so that step B runs again after each decision."""
+def join(heads, body, arities, constants, facts, free, seed, last=()):
+    """One rule over random facts; some facts are free, so that step B runs again after each decision. Last is
+    what the arguments of every fact end with."""
     draw = random.Random(seed)
     sheet = Sheet(constants)
     for arity in arities:
@@ -130,7 +131,8 @@ def join(heads, body, arities, constants, facts, free, seed):
     drawn = []
     while len(drawn) < facts + free:
         symbol = draw.choice(symbols)
-        fact = (symbol,) + tuple(draw.randint(1, constants) for _ in range(arities[symbol - 1]))
+        count = arities[symbol - 1] - len(last)
+        fact = (symbol,) + tuple(draw.randint(1, constants) for _ in range(count)) + last
         if fact not in drawn:
             drawn.append(fact)
     for fact in drawn[:facts]:
@@ -202,8 +204,8 @@ SHEETS = {
     'c_triangle_16': join([(U, 1, 2), (U, 2, 3), (U, 1, 3)], [(OUT, 1, 3)], [2, 3, 2], 16, 40, 12, 3),
     'c_late_16': join([(U, 1, 4), (U, 2, 4), (U, 3, 4)], [(OUT, 1, 3)], [2, 3, 2], 16, 28, 8, 4),
     'c_wide_16': join([(T, 1, 2, 3), (U, 3, 4), (-U, 4, 1)], [], [2, 3, 2], 16, 40, 12, 5),
-    'c_apart_10': join([(U, 1, 2), (U, 3, 4)], [(OUT, 1, 4)], [2, 3, 2], 10, 16, 8, 6),
-    'c_cross_06': join([(T, 1, 3, 5), (T, 2, 4, 6)], [(OUT, 1, 6)], [2, 3, 2], 6, 16, 4, 7),
+    'c_hub_10': join([(T, 2, 3, 1), (T, 4, 5, 1)], [(OUT, 2, 5)], [2, 3, 2], 10, 16, 8, 6, (1,)),
+    'c_cross_06': join([(T, 1, 3, 5), (T, 2, 4, 6), (U, 5, 6)], [(OUT, 1, 6)], [2, 3, 2], 6, 36, 4, 7),
     'd_machine_1': machine(2, 2, 3, 3, 1), 'd_machine_2': machine(3, 3, 3, 4, 31),
     'd_machine_3': machine(4, 4, 4, 4, 19), 'd_machine_4': machine(4, 4, 5, 5, 12),
     'd_machine_5': machine(6, 6, 5, 5, 7), 'd_crossed_1': machine(4, 4, 4, 4, 19, True),

@@ -32,6 +32,7 @@ fn sheet(random: &mut Random) -> (Vec<u8>, bool) {
         200..=399 => (text(&tight(random)), false),
         400..=599 => (text(&order(random)), false),
         600..=999 => (text(&derived(random)), false),
+        1000..=1099 => (text(&joins(random)), false),
         _ => (text(&general(random)), false),
     }
 }
@@ -64,6 +65,10 @@ pub struct Style {
     pub negated_heads: usize,
     pub negated_bodies: usize,
     pub false_bodies: usize,
+    /// Constants among the arguments in rules.
+    pub constant_terms: usize,
+    /// The rules whose heads stay as they come, so that question 14 turns some away.
+    pub unmended: usize,
 }
 
 impl Style {
@@ -85,6 +90,8 @@ pub fn any_style(random: &mut Random, constants: usize, arities: Vec<usize>) -> 
         negated_heads: *random.pick(&[0, 10, 25, 50]),
         negated_bodies: *random.pick(&[0, 20, 40, 60]),
         false_bodies: *random.pick(&[0, 20, 50]),
+        constant_terms: 12,
+        unmended: 4,
     }
 }
 
@@ -107,7 +114,7 @@ fn pattern(
     let symbol = *random.pick(symbols);
     let mut row = vec![signed(random, symbol, share)];
     for _ in 0..style.arities[symbol - 1] {
-        let constant = names.is_empty() || random.percent(12);
+        let constant = names.is_empty() || random.percent(style.constant_terms);
         row.push(if constant {
             -(random.between(1, style.constants) as i32)
         } else {
@@ -125,8 +132,54 @@ fn variables_of(literals: &[Row]) -> Vec<i32> {
         .collect()
 }
 
-/// A rule: few variables of any numbers, so that gaps and other orders come up.
+/// Does the head at this place share a variable with another?
+fn connected(heads: &[Row], place: usize) -> bool {
+    let own = variables_of(&heads[place..=place]);
+    let others = [&heads[..place], &heads[place + 1..]].concat();
+    variables_of(&others).iter().any(|name| own.contains(name))
+}
+
+/// Mends several heads that do not hang together: one without arguments gives way to one with some, and one
+/// that shares no variable gets one of another head. Where no symbol has arguments a single head stays.
+fn mend(random: &mut Random, style: &Style, names: &[i32], heads: &mut Vec<Row>) {
+    let mut symbols = style.heads.clone();
+    symbols.retain(|&symbol| style.arities[symbol - 1] > 0);
+    if symbols.is_empty() {
+        heads.truncate(1);
+    }
+    if heads.len() == 1 {
+        return;
+    }
+    for head in heads.iter_mut().filter(|head| head.len() == 1) {
+        *head = pattern(random, style, &symbols, style.negated_heads, names);
+    }
+    for place in 0..heads.len() {
+        if connected(heads, place) {
+            continue;
+        }
+        let other = (place + random.between(1, heads.len() - 1)) % heads.len();
+        let known = variables_of(&heads[other..=other]);
+        let shared = *random.pick(if known.is_empty() { names } else { &known });
+        if known.is_empty() {
+            put_term(random, &mut heads[other], shared);
+        }
+        put_term(random, &mut heads[place], shared);
+    }
+}
+
+/// Writes a term over one of a literal's arguments.
+fn put_term(random: &mut Random, literal: &mut Row, term: i32) {
+    let place = random.between(1, literal.len() - 1);
+    literal[place] = term;
+}
+
 pub fn random_rule(random: &mut Random, style: &Style) -> Row {
+    let head_count = *random.pick(&[1, 1, 1, 2, 2, 2, 2, 3, 3]);
+    rule_with(random, style, head_count)
+}
+
+/// A rule: few variables of any numbers, so that gaps and other orders come up.
+fn rule_with(random: &mut Random, style: &Style, head_count: usize) -> Row {
     let mut names: Vec<i32> = (1..=6).collect();
     random.shuffle(&mut names);
     let most = match style.constants {
@@ -137,7 +190,7 @@ pub fn random_rule(random: &mut Random, style: &Style) -> Row {
     };
     names.truncate(random.between(1, most));
     let mut heads: Vec<Row> = Vec::new();
-    for _ in 0..*random.pick(&[1, 1, 1, 2, 2, 2, 2, 3, 3]) {
+    for _ in 0..head_count {
         let head = match (random.below(100), heads.last()) {
             (0..=2, Some(last)) => last.clone(),
             (3..=5, Some(last)) => negated(last),
@@ -152,6 +205,10 @@ pub fn random_rule(random: &mut Random, style: &Style) -> Row {
         };
         heads.push(head);
     }
+    let unmended = random.percent(style.unmended);
+    if !unmended {
+        mend(random, style, &names, &mut heads);
+    }
     let bound = variables_of(&heads);
     let mut body = Vec::new();
     if !random.percent(style.false_bodies) {
@@ -159,7 +216,8 @@ pub fn random_rule(random: &mut Random, style: &Style) -> Row {
             let literal = match random.below(100) {
                 0..=9 => negated(random.pick(&heads)),
                 10..=12 => random.pick(&heads).clone(),
-                13 if random.one_in(1, 4) => {
+                // Question 12, more often where 14 may be broken too.
+                13..=17 if unmended || random.one_in(1, 20) => {
                     pattern(random, style, &style.bodies, 20, &[1, 2, 3, 4, 5, 6])
                 }
                 _ => pattern(random, style, &style.bodies, style.negated_bodies, &bound),
@@ -216,9 +274,9 @@ pub fn random_clause(
 
 fn random_arities(random: &mut Random, count: usize, constants: usize) -> Vec<usize> {
     let choices: &[usize] = if constants > 3 {
-        &[0, 1, 1, 2]
+        &[0, 1, 1, 1, 2]
     } else {
-        &[0, 0, 0, 1, 1, 1, 1, 2, 2, 3]
+        &[0, 0, 1, 1, 1, 1, 1, 2, 2, 3]
     };
     (0..count).map(|_| *random.pick(choices)).collect()
 }
@@ -271,16 +329,16 @@ fn wide(random: &mut Random) -> Vec<Row> {
 /// Many clauses of two and three literals over few atoms: decisions and conflicts.
 fn tight(random: &mut Random) -> Vec<Row> {
     let constants = random.between(1, 3);
-    let arities = vec![1, 1, 1, 0, 0];
+    let arities = vec![1, 1, 1, 1, 0];
     let mut style = any_style(random, constants, arities);
     style.false_bodies = 60;
     let mut rows = style.rows();
-    for _ in 0..random.below(5) {
+    for _ in 0..random.below(6) {
         rows.push(random_rule(random, &style));
     }
     let count = random.between(4, 9);
     let mut atoms: Vec<Row> = Vec::new();
-    while atoms.len() < count.min(3 * constants + 2) {
+    while atoms.len() < count.min(4 * constants + 1) {
         let atom = random_atom(random, constants, &style.arities, &style.heads);
         if !atoms.contains(&atom) {
             atoms.push(atom);
@@ -335,12 +393,14 @@ fn order(random: &mut Random) -> Vec<Row> {
 /// created atom, and what it then fires.
 fn derived(random: &mut Random) -> Vec<Row> {
     let constants = *random.pick(&[1, 1, 2, 2, 3]);
-    let mut arities: Vec<usize> = (0..random.between(2, 3)).map(|_| random.below(2)).collect();
-    let goal: Vec<usize> = (1..=arities.len()).collect();
-    arities.extend((0..random.between(2, 4)).map(|_| random.below(2)));
+    let goal: Vec<usize> = (1..=random.between(2, 3)).collect();
+    let arities: Vec<usize> = (0..goal.len() + random.between(2, 4))
+        .map(|_| *random.pick(&[0, 1, 1, 1]))
+        .collect();
     let mut style = any_style(random, constants, arities);
     style.negated_heads = *random.pick(&[15, 30]);
     style.negated_bodies = *random.pick(&[30, 50]);
+    style.unmended = 2;
     style.bodies = (1..=style.arities.len())
         .flat_map(|s| {
             if s > goal.len() {
@@ -363,6 +423,30 @@ fn derived(random: &mut Random) -> Vec<Row> {
     rows
 }
 
+/// Rules of two and three heads with arguments enough for chains, over so many facts that they fire.
+fn joins(random: &mut Random) -> Vec<Row> {
+    let constants = *random.pick(&[2, 2, 3]);
+    let arities = vec![2, random.between(1, 3), random.below(3)];
+    let mut style = any_style(random, constants, arities);
+    style.heads = vec![1, 1, 2];
+    style.negated_heads = 5;
+    style.constant_terms = *random.pick(&[5, 40]);
+    style.unmended = 10;
+    let mut rows = style.rows();
+    for _ in 0..random.between(1, 2) {
+        let head_count = *random.pick(&[2, 3, 3]);
+        rows.push(rule_with(random, &style, head_count));
+    }
+    let atoms: Vec<Row> = (0..random.between(4, 20))
+        .map(|_| random_atom(random, constants, &style.arities, &style.heads))
+        .collect();
+    rows.extend(atoms.iter().map(|atom| clause(std::slice::from_ref(atom))));
+    for _ in 0..random.below(4) {
+        rows.push(random_clause(random, &atoms, 10, 15));
+    }
+    rows
+}
+
 /// A clause that is always satisfied and brings its atoms into the table.
 fn tautology(atoms: &[Row]) -> Row {
     let mut literals = atoms.to_vec();
@@ -376,15 +460,23 @@ fn all_of(symbol: i32, count: usize) -> Vec<Row> {
         .collect()
 }
 
-/// Around 256 atoms: two symbols of arity 1 create every pair, other goal atoms make up the rest.
+/// The same with 1 as a second argument, the one by which heads hang together.
+fn all_with_one(symbol: i32, count: usize) -> Vec<Row> {
+    (1..=count as i32)
+        .map(|constant| vec![symbol, constant, 1])
+        .collect()
+}
+
+/// Around 256 atoms: two symbols create every pair, other goal atoms make up the rest.
 fn table_limit(random: &mut Random) -> Vec<Row> {
     let (f, g, e, r) = (1, 2, 3, 4);
-    let mut rows = vec![vec![1, 32], vec![2, 1], vec![2, 1], vec![2, 1], vec![2, 2]];
-    rows.push(rule(&[vec![f, 1], vec![g, 2]], &[vec![r, 1, 2]]));
+    let mut rows = vec![vec![1, 32], vec![2, 2], vec![2, 2], vec![2, 1], vec![2, 2]];
+    // The shared variable has the lowest number, so that the plain walk over the fillings stays short.
+    rows.push(rule(&[vec![f, 2, 1], vec![g, 3, 1]], &[vec![r, 2, 3]]));
     if random.percent(50) {
         rows.push(rule(
             &[vec![r, 2, 1], vec![e, 1]],
-            &[vec![*random.pick(&[1, -1]) * f, 2]],
+            &[vec![*random.pick(&[1, -1]) * f, 2, -1]],
         ));
     }
     if random.percent(50) {
@@ -403,8 +495,8 @@ fn table_limit(random: &mut Random) -> Vec<Row> {
     } else {
         rows.extend(all_of(e, rest).chunks(8).map(clause));
     }
-    let mut units: Vec<Row> = all_of(f, 15);
-    units.extend(all_of(g, 14));
+    let mut units: Vec<Row> = all_with_one(f, 15);
+    units.extend(all_with_one(g, 14));
     if random.percent(50) {
         let place = random.below(units.len());
         units[place] = negated(&units[place]);
@@ -422,26 +514,26 @@ fn table_limit(random: &mut Random) -> Vec<Row> {
 fn log_limit(random: &mut Random) -> Vec<Row> {
     let (h, g, p, q, z, r, t) = (1, 2, 3, 4, 5, 6, 7);
     let mut rows = vec![vec![1, 32]];
-    rows.extend([1, 1, 0, 0, 0, 1, 1].map(|arity| vec![2, arity]));
-    rows.push(rule(&[vec![h, 1], vec![h, 2]], &[]));
-    rows.push(rule(&[vec![g, 2], vec![g, 1]], &[]));
+    rows.extend([2, 2, 0, 0, 1, 2, 1].map(|arity| vec![2, arity]));
+    rows.push(rule(&[vec![h, 2, 1], vec![h, 3, 1]], &[]));
+    rows.push(rule(&[vec![g, 3, 1], vec![g, 2, 1]], &[]));
     let last = [
         vec![],
         vec![vec![t, 5]],
         vec![vec![t, 5]],
-        vec![vec![r, 5], vec![t, 5]],
-        vec![vec![-z]],
+        vec![vec![r, 5, 4], vec![t, 5]],
+        vec![vec![-z, 4]],
     ];
     let body: &Vec<Row> = random.pick(&last);
-    rows.push(rule(&[vec![r, 5], vec![-z]], body));
+    rows.push(rule(&[vec![r, 5, 4], vec![-z, 4]], body));
     random.shuffle(&mut rows[8..]);
-    rows.push(tautology(&[vec![z]]));
-    rows.extend(all_of(h, 32).chunks(7).map(tautology));
-    rows.push(tautology(&all_of(g, random.between(5, 6))));
+    rows.push(tautology(&[vec![z, 1]]));
+    rows.extend(all_with_one(h, 32).chunks(7).map(tautology));
+    rows.push(tautology(&all_with_one(g, random.between(5, 6))));
     for (a, b) in [(p, q), (p, -q), (-p, q), (-p, -q)] {
-        rows.push(clause(&[vec![-z], vec![a], vec![b]]));
+        rows.push(clause(&[vec![-z, 1], vec![a], vec![b]]));
     }
-    rows.push(tautology(&all_of(r, random.between(1, 7))));
+    rows.push(tautology(&all_with_one(r, random.between(1, 7))));
     rows
 }
 
@@ -455,9 +547,11 @@ fn sheet_limits(random: &mut Random) -> Vec<Row> {
             rows.extend((0..random.between(15, 17)).map(|_| vec![2, random.below(4) as i32]));
         }
         1 => {
-            rows.extend([vec![2, 0], vec![2, 0], vec![2, 1]]);
-            for _ in 0..random.between(31, 33) {
-                let style = any_style(random, constants.min(3), vec![0, 0, 1]);
+            rows.extend([vec![2, 0], vec![2, 1], vec![2, 1]]);
+            for number in 1..=random.between(31, 33) {
+                let mut style = any_style(random, constants.min(3), vec![0, 1, 1]);
+                // One rule too many is turned away for that, however its heads are.
+                style.unmended = if number == 33 { 60 } else { 0 };
                 rows.push(random_rule(random, &style));
             }
         }
@@ -503,19 +597,16 @@ fn sheet_limits(random: &mut Random) -> Vec<Row> {
         }
         _ => {
             // Constants of two digits, in clauses and in a rule, at the edge of their range.
-            rows.extend([vec![2, 1], vec![2, 2]]);
+            rows.extend([vec![2, 2], vec![2, 2]]);
             let last = constants as i32;
             let over = last + random.below(2) as i32;
             rows.push(rule(
-                &[vec![1, -last], vec![2, 4, 2]],
-                &[vec![-1, *random.pick(&[2, 4, -1, -over])]],
+                &[vec![1, -last, 4], vec![2, 4, 2]],
+                &[vec![-1, *random.pick(&[2, 4, -1, -over]), 4]],
             ));
-            rows.push(clause(&[vec![1, last]]));
-            rows.push(clause(&[vec![
-                2,
-                *random.pick(&[1, last]),
-                *random.pick(&[1, last, over]),
-            ]]));
+            let shared = *random.pick(&[1, last]);
+            rows.push(clause(&[vec![1, last, shared]]));
+            rows.push(clause(&[vec![2, shared, *random.pick(&[1, last, over])]]));
         }
     }
     // Which question comes first, where the last line breaks two of them?

@@ -21,7 +21,7 @@ pub struct Outcome {
 }
 
 /// A sheet that keeps the given accepted one, with more besides and in another order. Nothing if it
-/// would break a limit.
+/// would be refused, at a limit or at a rule that came besides.
 pub fn larger(random: &mut Random, sheet: &[u8]) -> Option<Vec<u8>> {
     let first = rows(sheet)?;
     let of_kind = |kind: i32| {

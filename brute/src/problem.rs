@@ -46,6 +46,10 @@ impl Pattern {
         self.terms.contains(&Term::Variable(variable))
     }
 
+    pub fn shares_variable(&self, other: &Pattern) -> bool {
+        (1..=6).any(|variable| self.holds_variable(variable) && other.holds_variable(variable))
+    }
+
     pub fn filled(&self, filling: &Filling) -> Literal {
         let mut constants = [0; 3];
         for (place, term) in self.terms.iter().enumerate() {
@@ -77,6 +81,17 @@ impl Rule {
         (1..=6)
             .filter(|&variable| self.heads.iter().any(|head| head.holds_variable(variable)))
             .collect()
+    }
+
+    /// Does each of several heads share a variable with another one? A single head needs no other.
+    pub fn heads_connected(&self) -> bool {
+        let connected = |place: usize| {
+            self.heads
+                .iter()
+                .enumerate()
+                .any(|(other, head)| other != place && self.heads[place].shares_variable(head))
+        };
+        self.heads.len() == 1 || (0..self.heads.len()).all(connected)
     }
 }
 

@@ -1,4 +1,5 @@
-//! The reader of sheets: document 01's questions 1 to 13, asked in order.
+//! The reader of sheets: questions 1 to 14 of documents 01 and 02, asked in order, with 14 between 12
+//! and 13.
 
 use crate::problem::{Atom, Literal, Pattern, Problem, Rule, Term};
 
@@ -41,7 +42,7 @@ pub fn read(sheet: &[u8], room: usize) -> Result<Problem, Refusal> {
     Ok(problem)
 }
 
-/// Questions 4 to 13 of one line. Hands back its kind, or the number of the first no.
+/// Questions 4 to 14 of one line. Hands back its kind, or the number of the first no.
 fn read_line(line: &[u8], kind_before: Option<i32>, problem: &mut Problem) -> Result<i32, u64> {
     let Some((b'\n', text)) = line.split_last() else {
         return Err(4);
@@ -149,6 +150,9 @@ fn rule_line(columns: &[i32], problem: &mut Problem) -> Result<(), u64> {
         if in_body && !in_head {
             return Err(12);
         }
+    }
+    if !rule.heads_connected() {
+        return Err(14);
     }
     problem.rules.push(rule);
     Ok(())

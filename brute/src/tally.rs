@@ -17,7 +17,7 @@ pub struct Tally {
     by_meaning: u64,
     answers: [u64; 4],
     /// By number; place 0 is not used.
-    refusals: [u64; 14],
+    refusals: [u64; 15],
     events: Events,
     larger_sheets: u64,
     larger_calls: u64,
@@ -62,7 +62,7 @@ impl Tally {
             .zip(self.answers)
             .map(|(name, count)| (name.to_string(), count))
             .collect();
-        all.extend((1..14).map(|number| (format!("refusal {number}"), self.refusals[number])));
+        all.extend((1..15).map(|number| (format!("refusal {number}"), self.refusals[number])));
         let events = &self.events;
         for (name, count) in [
             (
