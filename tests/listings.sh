@@ -1,6 +1,6 @@
 #!/usr/bin/env bash
-# tests/listings.sh [PROGRAM]: runs a program (default target/bin/thunyaworm) on every sheet of tests/vectors and examples and compares
-# what it prints with the listing beside the sheet, byte for byte.
+# tests/listings.sh [PROGRAM]: runs a program (default target/bin/thunyaworm) on every sheet of tests/vectors/* and examples and
+# compares what it prints with the listing beside the sheet, byte for byte.
 # The last line is "listings: N passed, M failed"; exit status 1 if one failed.
 set -u
 here=$(cd "$(dirname "$0")" && pwd)
@@ -13,13 +13,13 @@ fi
 program=$(cd "$(dirname "$program")" && pwd)/$(basename "$program")
 passed=0
 failed=0
-for sheet in "$here"/vectors/*.sheet "$here"/../examples/*.sheet; do
+for sheet in "$here"/vectors/*/*.sheet "$here"/../examples/*.sheet; do
     # cmp reads the program's output as it is, so that missing or further line ends count too.
     if "$program" < "$sheet" | cmp -s - "${sheet%.sheet}.listing"; then
         passed=$((passed + 1))
     else
         failed=$((failed + 1))
-        echo "differs: $(basename "$sheet")"
+        echo "differs: $(basename "$(dirname "$sheet")")/$(basename "$sheet")"
     fi
 done
 echo "listings: $passed passed, $failed failed"
