@@ -72,6 +72,6 @@ module _ (first second : List ℕ) (budget : ℕ) (room : List ℕ) (answered : 
 pub request-1 : (sheet : List ℕ) (p : Problem) → read sheet ≡ accepted p → (r : Rule) → r ∈ p .rules → (h : HeadAmong r) → Shares h
 request-1 = connected-heads
 
--- and question 14 turns a rule away only if it has a head that doesn't.
+-- and a rule that fails the test of question 14, `connected`, has a head that doesn't.
 pub request-1-only : (r : Rule) → connected r ≡ false → (h : HeadAmong r) × Apart h
 request-1-only = head-apart
