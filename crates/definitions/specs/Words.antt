@@ -1,5 +1,5 @@
 -- Document 01, "Words": atoms, literals, rules, and what a sheet says. Assumes nothing.
-use Prim.Native.Nat.{ℕ}
+use Prim.Native.Nat.{ℕ, suc}
 use mathlib.Core.Bool.{Bool, true, false, not, _&&_, Bool·beq}
 use mathlib.Core.List.{List, [], _∷_, map}
 use lib.Dec.{eqb}
@@ -65,7 +65,12 @@ pub record Problem : Type 0 where
 unfoldable pub goalAtoms : List Clause → List Atom
 goalAtoms cs = distinct sameAtom (map (λ (l : Literal). l .atom) (joined (λ (c : Clause). c) cs))
 
+-- where an atom stands in a table, from 0
+unfoldable pub position : List Atom → Atom → ℕ
+position [] a = 0
+position (b ∷ bs) a = elim (sameAtom b a) [ true ↦ 0 | false ↦ suc (position bs a) ]
+
 -- names every definition of this module, for a theorem that computes with all of them
 unfoldable pub Words·all : Unit {0}
-unfolding negate plain sameArgs sameAtom sameLiteral goalAtoms
+unfolding negate plain sameArgs sameAtom sameLiteral goalAtoms position
 Words·all = tt

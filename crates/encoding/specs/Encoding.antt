@@ -1,12 +1,12 @@
 -- What the arrays hold of a problem: codes of atoms, the table and its index, clauses as literals of table positions. Assumes nothing.
 use Prim.Native.Nat.{ℕ, suc, _+_, _-_, _*_}
-use mathlib.Core.Bool.{true, false, not}
+use mathlib.Core.Bool.{not}
 use mathlib.Core.List.{List, [], _∷_, map}
 use lib.ListN.{length, getD, set, replicate}
 use lib.Seq.{sets}
 use Rattle.encoding.specs.Lengths.{atomCodes}
 use Rattle.definitions.specs.Lists.{joined}
-use Rattle.definitions.specs.Words.{Atom, Literal, sameAtom, Clause, Problem, goalAtoms}
+use Rattle.definitions.specs.Words.{Atom, Literal, Clause, Problem, goalAtoms, position}
 use Rattle.encoding.specs.Signs.{wordOf}
 use Rattle.encoding.specs.Slots.{ruleWords}
 use Rattle.encoding.specs.declared.Sizes.{Sizes}
@@ -22,11 +22,6 @@ codeOf symbol a b c = ((symbol * 32 + a) * 32 + b) * 32 + c
 unfoldable pub atomCode : Atom → ℕ
 atomCode a = codeOf (a .symbol - 1) (place (a .args) 0) (place (a .args) 1) (place (a .args) 2)
 
--- where an atom stands in the table
-unfoldable pub position : List Atom → Atom → ℕ
-position [] a = 0
-position (b ∷ bs) a = elim (sameAtom b a) [ true ↦ 0 | false ↦ suc (position bs a) ]
-
 -- a literal: twice its atom's position, and 1 more where it is negated
 unfoldable pub literalWord : List Atom → Literal → ℕ
 literalWord table l = wordOf (not (l .positive)) (position table (l .atom))
@@ -34,8 +29,8 @@ literalWord table l = wordOf (not (l .positive)) (position table (l .atom))
 unfoldable pub clauseWords : List Atom → Clause → List ℕ
 clauseWords table c = map (literalWord table) c
 
--- where each clause starts among all literals, and where the last one ends
-unfoldable pub startsFrom : ℕ → List Clause → List ℕ
+-- where each clause starts among all literals, whatever stands for one, and where the last clause ends
+unfoldable pub startsFrom : {A : Type 0} → ℕ → List (List A) → List ℕ
 startsFrom at [] = at ∷ []
 startsFrom at (c ∷ cs) = at ∷ startsFrom (at + length c) cs
 

@@ -5,10 +5,10 @@ use mathlib.Core.Bool.{true, false}
 use mathlib.Core.List.{List}
 use lib.ListN.{getD}
 use Rattle.definitions.specs.Lists.{_∈_}
-use Rattle.definitions.specs.Words.{Atom, Literal, plain, Problem}
+use Rattle.definitions.specs.Words.{Atom, Literal, plain, Problem, position}
 use Rattle.definitions.specs.Search.{Trail, isTrue, isFalse}
 use Rattle.theory.specs.Limits.{LiteralLimits}
-use Rattle.encoding.specs.Encoding.{atomCode, position, literalWord}
+use Rattle.encoding.specs.Encoding.{atomCode, literalWord}
 use Rattle.encoding.specs.Values.{Value, unsetValue, trueValue, falseValue, valueAt, trueWord}
 
 -- a literal's truth as a value

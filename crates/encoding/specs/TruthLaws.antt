@@ -4,13 +4,13 @@ use mathlib.Core.Path.{_≡_, sym, _∙_, ap}
 use mathlib.Core.Bool.{true, false}
 use mathlib.Core.List.{List}
 use Rattle.definitions.specs.Lists.{_∈_}
-use Rattle.definitions.specs.Words.{Atom, Literal, negate, plain}
+use Rattle.definitions.specs.Words.{Atom, Literal, negate, plain, position}
 use Rattle.definitions.specs.Search.{Trail, isTrue, isFalse, isUnset}
 use Rattle.theory.specs.Tests.{by-test}
 use Rattle.theory.specs.WordLaws.{as-plain, as-negated}
 use Rattle.theory.specs.SearchLaws.{unset-not-true, unset-not-false, unset-of, unset-negate, negated-false}
 use Rattle.encoding.specs.Signs.{wordOf}
-use Rattle.encoding.specs.Encoding.{position, literalWord}
+use Rattle.encoding.specs.Encoding.{literalWord}
 use Rattle.encoding.specs.Values.{unsetValue, trueValue, falseValue, isUnsetValue, isTrueValue, isFalseValue, opposite, unsetAt, literalValue, trueWord, falseWord}
 use Rattle.encoding.specs.ValueLaws.{value-even, value-odd}
 use Rattle.encoding.specs.Standing.{truth, Valued, TrueWords}

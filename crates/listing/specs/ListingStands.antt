@@ -8,7 +8,7 @@ use mathlib.Core.List.{List, [], _∷_, _++_, map, append-nil, append-assoc, Lis
 use native.Mathlib.Omega.{arith}
 use lib.ListN.{length, getElem?, length-map}
 use Rattle.definitions.specs.Lists.{_∈_, joined, filter}
-use Rattle.definitions.specs.Words.{Atom, Literal, negate, plain, Clause, Problem}
+use Rattle.definitions.specs.Words.{Atom, Literal, negate, plain, Clause, Problem, position}
 use Rattle.definitions.specs.Instances.{taskOf}
 use Rattle.definitions.specs.Search.{isFalse, isUnset, Logged, clauseOf, State}
 use Rattle.definitions.specs.Sheet.{Number, plus}
@@ -17,8 +17,9 @@ use Rattle.definitions.specs.declared.Verdict.{Verdict}
 use Rattle.definitions.specs.declared.Verdict.the-variants.{Unsat, Unknown, Spent, Full}
 use Rattle.theory.specs.ListLaws.{joined-append}
 use Rattle.theory.specs.Unknown.{consistent}
-use Rattle.encoding.specs.Encoding.{atomCode, position, literalWord, clauseWords}
-use Rattle.encoding.specs.PositionLaws.{position-at, code-at}
+use Rattle.theory.specs.TableLaws.{position-at}
+use Rattle.encoding.specs.Encoding.{atomCode, literalWord, clauseWords}
+use Rattle.encoding.specs.PositionLaws.{code-at}
 use Rattle.encoding.specs.HoldLaws.{searchable-encodable, plain-limits}
 use Rattle.encoding.specs.Signs.{numberOf, number-word}
 use Rattle.encoding.specs.Values.{unsetAt, falseWord}

@@ -7,21 +7,21 @@ use native.Mathlib.Omega.{arith}
 use lib.ListN.{length, getD, set, length-append, length-map}
 use lib.Seq.{sets}
 use Rattle.definitions.specs.Lists.{_∈_, joined}
-use Rattle.definitions.specs.Words.{Atom, Literal, Clause, Problem, goalAtoms}
+use Rattle.definitions.specs.Words.{Atom, Literal, Clause, Problem, goalAtoms, position}
 use Rattle.definitions.specs.Questions.{withClause}
 use Rattle.definitions.specs.Search.{enter}
 use Rattle.theory.specs.ListLaws.{Different}
 use Rattle.theory.specs.WordLaws.{goal-of}
 use Rattle.theory.specs.SearchLaws.{enter-new}
 use Rattle.theory.specs.Limits.{LiteralLimits}
-use Rattle.theory.specs.TableLaws.{enterAll, by-member, enter-known, enter-fresh, enter-different, enter-each, atomsOf, goal-atoms-more, goal-atoms-different, joined-more, enter-all-behind}
+use Rattle.theory.specs.TableLaws.{enterAll, by-member, enter-known, enter-fresh, enter-different, enter-each, atomsOf, goal-atoms-more, goal-atoms-different, joined-more, enter-all-behind, position-behind}
 use Rattle.column.specs.Sets.{sets-more}
 use Rattle.encoding.specs.Signs.{wordOf, word-number}
 use Rattle.encoding.specs.Slots.{asPattern, slotWords}
-use Rattle.encoding.specs.Encoding.{atomCode, position, literalWord, clauseWords, indexFrom, emptyIndex, Arrays, hold}
+use Rattle.encoding.specs.Encoding.{atomCode, literalWord, clauseWords, indexFrom, emptyIndex, Arrays, hold}
 use Rattle.encoding.specs.CodeLaws.{CodeLimits, AtomLimits, index-more, index-within, index-known, index-new}
 use Rattle.encoding.specs.HoldLaws.{Encodable, literal-atom, goal-limits, words-length}
-use Rattle.encoding.specs.PositionLaws.{position-behind, literal-word-append, all-words-append}
+use Rattle.encoding.specs.PositionLaws.{literal-word-append, all-words-append}
 use Rattle.literals.specs.Entering.{Entered, entered, enterLiteral, enterSlots}
 use Rattle.literals.specs.EnteringLaws.{literal-new, literal-known}
 use Rattle.literals.specs.ClauseSlotLaws.{slot-code, slot-sign, SlotsFrom, first-slot, later-slots}

@@ -9,7 +9,7 @@ use mathlib.Core.List.{List, _∷_, _++_, map, List·Memᴰ·cases-cons, List·M
 use native.Mathlib.Omega.{arith}
 use lib.ListN.{length, getD, length-map}
 use Rattle.definitions.specs.Lists.{_∈_}
-use Rattle.definitions.specs.Words.{Atom, Literal, plain, Problem, goalAtoms}
+use Rattle.definitions.specs.Words.{Atom, Literal, plain, Problem, goalAtoms, position}
 use Rattle.definitions.specs.Instances.{Task, taskOf}
 use Rattle.definitions.specs.Search.{forced, Entry, Trail, isTrue, isUnset, State, force, nextAct, nextGoal, backtrack, setUnit, more}
 use Rattle.theory.specs.ListLaws.{at-split, in-along, pigeonhole, Different}
@@ -19,7 +19,6 @@ use Rattle.theory.specs.Trail.{Decision, Consequence, Ok, bare, next}
 use Rattle.theory.specs.Choices.{choiceWorld, inv-act}
 use Rattle.theory.specs.Unknown.{consistent}
 use Rattle.theory.specs.Ends.{Fits, step-fits}
-use Rattle.encoding.specs.Encoding.{position}
 use Rattle.units.specs.Units.{actFrom}
 use Rattle.encoding.specs.Standing.{TrueWords}
 use Rattle.units.specs.ClausesStand.{actWord}

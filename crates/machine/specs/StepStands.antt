@@ -9,7 +9,7 @@ use native.Mathlib.Omega.{arith}
 use lib.ListN.{length, getD, set, take, drop, length-append, length-set}
 use borrow.Author.Tests.{ltb-true, ltb-false, eq-eqb, ne-eqb, le-leb, lt-leb}
 use Rattle.definitions.specs.Lists.{_∈_, joined}
-use Rattle.definitions.specs.Words.{Atom, Literal, plain, Problem, goalAtoms}
+use Rattle.definitions.specs.Words.{Atom, Literal, plain, Problem, goalAtoms, position}
 use Rattle.definitions.specs.Instances.{taskOf}
 use Rattle.definitions.specs.Search.{Why, decided, flipped, forced, Trail, isUnset, Logged, State, conflict, force, nextAct, nextInstance, loggedOf, enterTaken, nextGoal, backtrack, setUnit, logInstance, decide, afterConflict, Outcome, more, done, hasRoom, step}
 use Rattle.definitions.specs.declared.Verdict.{Verdict}
@@ -22,7 +22,7 @@ use Rattle.theory.specs.Counts.{step-counts}
 use Rattle.theory.specs.Invariants.{step-sound}
 use Rattle.encoding.specs.Slots.{ruleWords}
 use Rattle.encoding.specs.ValueLaws.{length-assigned}
-use Rattle.encoding.specs.Encoding.{position, literalWord, sizesOf}
+use Rattle.encoding.specs.Encoding.{literalWord, sizesOf}
 use Rattle.units.specs.ClausesStand.{actWord}
 use Rattle.units.specs.TrailWords.{markOf, latestDecision, cleared, firstUnset, TrailStands}
 use Rattle.units.specs.LiteralWords.{word-plain}

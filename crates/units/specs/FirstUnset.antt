@@ -7,13 +7,12 @@ use mathlib.Core.List.{List, [], _∷_, _++_, append-assoc, List·Memᴰ·cases-
 use native.Mathlib.Omega.{arith}
 use lib.ListN.{length}
 use Rattle.definitions.specs.Lists.{_∈_, find}
-use Rattle.definitions.specs.Words.{Atom, plain, sameAtom}
+use Rattle.definitions.specs.Words.{Atom, plain, sameAtom, position}
 use Rattle.definitions.specs.Search.{Trail, isUnset}
 use Rattle.theory.specs.Tests.{by-test, apart, true-and-false, none≢some}
 use Rattle.theory.specs.ListLaws.{at-split, in-along, Different, find-in, find-passes}
 use Rattle.theory.specs.WordLaws.{sameAtom-eq, sameAtom-refl}
-use Rattle.encoding.specs.PositionLaws.{position-inside, position-append, position-behind}
-use Rattle.encoding.specs.Encoding.{position}
+use Rattle.theory.specs.TableLaws.{position-inside, position-append, position-behind}
 use Rattle.encoding.specs.Values.{unsetAt}
 use Rattle.encoding.specs.TruthLaws.{unset-at}
 use Rattle.units.specs.TrailWords.{firstUnset, TrailStands}

@@ -8,10 +8,10 @@ use lib.ListN.{length}
 use Rattle.definitions.specs.Lists.{_∈_}
 use Rattle.theory.specs.Tests.{by-test}
 use Rattle.theory.specs.WordLaws.{literal-ext}
-use Rattle.definitions.specs.Words.{Atom, Literal, negate, plain}
+use Rattle.definitions.specs.Words.{Atom, Literal, negate, plain, position}
+use Rattle.theory.specs.TableLaws.{position-inside, position-injective}
 use Rattle.encoding.specs.Signs.{wordOf, wordOf-half}
-use Rattle.encoding.specs.Encoding.{position, literalWord}
-use Rattle.encoding.specs.PositionLaws.{position-inside, position-injective}
+use Rattle.encoding.specs.Encoding.{literalWord}
 
 module _ (table : List Atom) where
   pub word-plain : (a : Atom) → literalWord table (plain a) ≡ 2 * position table a

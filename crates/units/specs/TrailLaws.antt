@@ -7,14 +7,15 @@ use mathlib.Core.List.{List, [], _∷_, _++_, map, List·Memᴰ·head, List·Mem
 use native.Mathlib.Omega.{arith}
 use lib.ListN.{length, getD, set, take, drop, length-append}
 use Rattle.definitions.specs.Lists.{_∈_, any}
-use Rattle.definitions.specs.Words.{Atom, Literal, negate, plain, sameAtom, sameLiteral}
+use Rattle.definitions.specs.Words.{Atom, Literal, negate, plain, sameAtom, sameLiteral, position}
 use Rattle.definitions.specs.Search.{Why, Entry, Trail, isTrue, isFalse, isUnset}
 use Rattle.theory.specs.Tests.{by-test}
 use Rattle.theory.specs.ListLaws.{Different}
 use Rattle.theory.specs.WordLaws.{sameAtom-eq, sameLiteral-eq, negate-negate, negate-atom, negate-differs, plain-atom, as-plain, as-negated}
 use Rattle.theory.specs.SearchLaws.{true-at, at-true, unset-not-false, unset-of}
-use Rattle.encoding.specs.PositionLaws.{apart-atoms, position-inside, position-injective, position-append, position-behind, literal-word-append}
-use Rattle.encoding.specs.Encoding.{position, literalWord}
+use Rattle.theory.specs.TableLaws.{apart-atoms, position-inside, position-injective, position-append, position-behind}
+use Rattle.encoding.specs.PositionLaws.{literal-word-append}
+use Rattle.encoding.specs.Encoding.{literalWord}
 use Rattle.encoding.specs.Values.{unsetValue, valueAt, noValues, assigned, unassigned}
 use Rattle.encoding.specs.ValueLaws.{assigned-even, assigned-odd, assigned-elsewhere, unassigned-here, unassigned-elsewhere, length-unassigned, no-value}
 use Rattle.encoding.specs.Standing.{truth, Valued}

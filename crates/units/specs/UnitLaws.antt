@@ -10,14 +10,14 @@ use lib.ListN.{length, getD, take, drop, getElem?, length-take}
 use lib.Seq.{take-take, take-all, take-add}
 use borrow.Author.Tests.{leb-true, leb-false, lt-ltb, le-ltb}
 use Rattle.definitions.specs.Lists.{_∈_, all, firstSome}
-use Rattle.definitions.specs.Words.{Atom, Literal, negate, sameAtom, Clause, goalAtoms}
+use Rattle.definitions.specs.Words.{Atom, Literal, negate, sameAtom, Clause, goalAtoms, position}
 use Rattle.definitions.specs.Instances.{Task}
 use Rattle.definitions.specs.Search.{Trail, isTrue, isUnset, Logged, clauseOf, State, Act, conflict, force, notFalse, actOn, isGoal, goalAct, loggedAct, nextAct}
 use Rattle.theory.specs.Tests.{by-test, by-option, true-and-false}
 use Rattle.theory.specs.WordLaws.{sameAtom-eq, negate-atom, goal-of}
 use Rattle.theory.specs.SearchLaws.{clause-head, isGoal-in, in-isGoal, mayLogged}
-use Rattle.encoding.specs.PositionLaws.{position-inside, position-append}
-use Rattle.encoding.specs.Encoding.{position, literalWord, clauseWords}
+use Rattle.theory.specs.TableLaws.{position-inside, position-append}
+use Rattle.encoding.specs.Encoding.{literalWord, clauseWords}
 use Rattle.theory.specs.PlaceLaws.{getElem-in}
 use Rattle.encoding.specs.Values.{falseWord}
 use Rattle.units.specs.Scan.{look}
