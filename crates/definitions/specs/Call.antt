@@ -49,8 +49,11 @@ firstShort [] = none
 firstShort (l ∷ ls) = elim (leb (l .asked) (l .lent)) [ true ↦ firstShort ls | false ↦ some (l .question) ]
 
 -- it ends the call with its number and line 0; otherwise the sheet is read
+unfoldable pub afterLending : List Lending → List ℕ → ℕ → Result
+afterLending ls sheet budget = elim (firstShort ls) [ none ↦ answered (read sheet) budget | some q ↦ refusal q 0 ]
+
 unfoldable pub result : List ℕ → ℕ → List ℕ → Result
-result sheet budget room = elim (firstShort (lendings (length room))) [ none ↦ answered (read sheet) budget | some q ↦ refusal q 0 ]
+result sheet budget room = afterLending (lendings (length room)) sheet budget
 
 -- what the call hands back
 unfoldable pub answerOf : Result → Answer
@@ -130,5 +133,5 @@ module _ (sheet : List ℕ) (budget : ℕ) (room : List ℕ) where
 
 -- names every definition of this module, for a theorem that computes with all of them
 unfoldable pub Call·all : Unit {0}
-unfolding searched answered lendings firstShort result answerOf listingOf written call listedPart roomAfter printedOf printed values
+unfolding searched answered lendings firstShort afterLending result answerOf listingOf written call listedPart roomAfter printedOf printed values
 Call·all = tt

@@ -10,7 +10,7 @@ use Rattle.definitions.specs.Bounds.{roomBytes}
 use Rattle.definitions.specs.Lists.{joined}
 use Rattle.definitions.specs.Sheet.{plus}
 use Rattle.definitions.specs.Listing.{fieldBytes, lineBytes, narrow, refusalLine}
-use Rattle.definitions.specs.Call.{Result, refusal, ended, unended, result, answerOf, listingOf, written, printedOf, printed}
+use Rattle.definitions.specs.Call.{Result, refusal, ended, unended, lendings, result, answerOf, listingOf, written, printedOf, printed}
 use Rattle.definitions.specs.declared.Refusal.{Refusal}
 use Rattle.definitions.specs.declared.Counts.{Counts}
 use Rattle.definitions.specs.declared.Answer.the-variants.{Refused, Answered}
@@ -69,10 +69,10 @@ module _ (sheet : List ℕ) (budget : ℕ) (room : List ℕ) (large : roomBytes 
       (solved .size ∙ ap length same, solved .stored ∙ ap (λ (bytes : List ℕ). written bytes room) same)
 
   pub print-refusal : (f : Refusal) → r .answer ≡ Refused f → (n : ℕ) (last : List ℕ) → Put after 0 (refusalLine (f .number) (f .line)) n last → Prints n last
-  unfolding written
+  unfolding written result
   print-refusal f e n last put =
       let bytes = refusalLine (f .number) (f .line) in
-      let (prints, lists) = refused-printed (result sheet budget room) (call-comes-to-an-end sheet budget room) f (sym (solved .answer) ∙ e) in
+      let (prints, lists) = refused-printed (result sheet budget room) (call-comes-to-an-end (lendings (length room)) sheet budget) f (sym (solved .answer) ∙ e) in
       let same : bytes ≡ printed sheet budget = sym (printed-result ∙ prints) in
       let unchanged : after ≡ room = solved .stored ∙ ap (λ (x : List ℕ). written x room) lists in
       let front = sets-front room bytes (omega (arith, refusal-length (f .number) (f .line))) in

@@ -13,7 +13,7 @@ use Rattle.definitions.specs.Words.{Problem}
 use Rattle.definitions.specs.Questions.{refused, accepted, read}
 use Rattle.definitions.specs.Search.{State}
 use Rattle.definitions.specs.Listing.{listing}
-use Rattle.definitions.specs.Call.{Result, searched, answered, lendings, firstShort, result, answerOf, listingOf, written}
+use Rattle.definitions.specs.Call.{Result, searched, answered, lendings, firstShort, afterLending, result, answerOf, listingOf, written}
 use Rattle.definitions.specs.Call as call
 use Rattle.definitions.specs.declared.Verdict.{Verdict}
 use Rattle.definitions.specs.declared.Answer.the-variants.{Refused, Answered}
@@ -78,13 +78,13 @@ module _ (sheet : List ℕ) (budget : ℕ) (room : List ℕ) where
   -- a question about what is lent is answered no, or none is
   pub short-solved : (number : ℕ) → ShortIs (firstShort (lendings (length room))) number → (number ≡ 0 → ⊥)
       → SolvedAs (result sheet budget room) room (record { answer = Refused (record { number = number; line = 0 }); length = 0 }) room
-  unfolding result answerOf listingOf written
+  unfolding result afterLending answerOf listingOf written
   short-solved number short some-number = from (firstShort (lendings (length room))) refl short
     where
       from : (o : Option ℕ) → firstShort (lendings (length room)) ≡ o → ShortIs o number
           → SolvedAs (result sheet budget room) room (record { answer = Refused (record { number = number; line = 0 }); length = 0 }) room
       from none e h = absurd (some-number h)
-      from (some q) e h = rw (e, result, h .0) (record { answer = refl; size = refl; stored = refl })
+      from (some q) e h = rw (e, result, afterLending, h .0) (record { answer = refl; size = refl; stored = refl })
 
   pub enough-solved : roomBytes ≤ length room → (r : Solved) (after : List ℕ) → SolvedAs (answered (read sheet) budget) room r after → SolvedAs (result sheet budget room) room r after
   enough-solved large r after h = rw (large-room sheet budget room large) h

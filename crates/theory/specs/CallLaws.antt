@@ -12,7 +12,7 @@ use Rattle.definitions.specs.Sheet.{number, plus, decimal}
 use Rattle.definitions.specs.Questions.{Reading, refused, accepted, read}
 use Rattle.definitions.specs.Search.{State, done, search}
 use Rattle.definitions.specs.Listing.{answerNumber}
-use Rattle.definitions.specs.Call.{Result, refusal, ended, searched, answered, lendings, firstShort, result, answerOf, listingOf, written, call, listedPart, roomAfter, RefusedWith, AnsweredWith, Comes, tooSmall, improper, proper, FromSearch}
+use Rattle.definitions.specs.Call.{Result, refusal, ended, searched, answered, lendings, firstShort, afterLending, result, answerOf, listingOf, written, call, listedPart, roomAfter, RefusedWith, AnsweredWith, Comes, tooSmall, improper, proper, FromSearch}
 use Rattle.definitions.specs.Sheets.{Answers, handsBack, lists}
 use Rattle.definitions.specs.declared.Verdict.{Verdict}
 use Rattle.theory.specs.Tests.{by-test, apart}
@@ -31,12 +31,12 @@ enough-room room h = rw (le-leb roomBytes room h, firstShort)
 module _ (sheet : List ℕ) (budget : ℕ) (room : List ℕ) where
   -- question 1
   pub small-room : length room < roomBytes → result sheet budget room ≡ refusal 1 0
-  unfolding result
-  small-room h = rw (short-room (length room) h, result)
+  unfolding result afterLending
+  small-room h = rw (short-room (length room) h, result, afterLending)
 
   pub large-room : roomBytes ≤ length room → result sheet budget room ≡ answered (read sheet) budget
-  unfolding result
-  large-room h = rw (enough-room (length room) h, result)
+  unfolding result afterLending
+  large-room h = rw (enough-room (length room) h, result, afterLending)
 
   -- ── what it comes to ──
 

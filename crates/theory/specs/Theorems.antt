@@ -15,7 +15,7 @@ use Rattle.definitions.specs.Questions.{Reading, refused, accepted, read}
 use Rattle.definitions.specs.Search.{State, Outcome, done, search}
 use Rattle.definitions.specs.Verdicts.{FirstChoice, SpentWhen, FullWhen}
 use Rattle.definitions.specs.Listing.{Field, listingLines, listing}
-use Rattle.definitions.specs.Call.{refusal, unended, searched, answered, lendings, firstShort, result}
+use Rattle.definitions.specs.Call.{refusal, unended, searched, answered, Lending, firstShort, afterLending}
 use Rattle.definitions.specs.declared.Verdict.{Verdict}
 use Rattle.definitions.specs.declared.Verdict.the-variants.{Unsat, Unknown, Spent, Full}
 use Rattle.theory.specs.Tests.{apart}
@@ -85,10 +85,10 @@ module _ (sheet : List ℕ) (p : Problem) (reads : read sheet ≡ accepted p) (b
     pub listing-columns-fit : budget < 2 ^ 32 → (line : List Field) → line ∈ listingLines v s → (f : Field) → f ∈ line → FieldFits f
     listing-columns-fit h = listing-fits v s (search-listable p (accepted-limits sheet p reads) budget h v s e)
 
--- so every call, on whatever bytes, budget and room, is refused or comes to one of the four answers
-pub call-comes-to-an-end : (sheet : List ℕ) (budget : ℕ) (room : List ℕ) → result sheet budget room ≡ unended → ⊥
-unfolding result answered searched
-call-comes-to-an-end sheet budget room e = from-lent (firstShort (lendings (length room))) e
+-- so every call, on whatever bytes, at whatever budget and with whatever is lent, is refused or comes to one of the four answers
+pub call-comes-to-an-end : (ls : List Lending) (sheet : List ℕ) (budget : ℕ) → afterLending ls sheet budget ≡ unended → ⊥
+unfolding afterLending answered searched
+call-comes-to-an-end ls sheet budget e = from-lent (firstShort ls) e
   where
     from-outcome : (o : Outcome) → IsDone o → searched o ≡ unended → ⊥
     from-outcome o d h = let q = d .is in apart (cc)
