@@ -21,9 +21,6 @@ use Rattle.machine.specs.declared.Run.{Run}
 use Rattle.listing.specs.Puts.{Parts}
 use Rattle.listing.specs.Lines.{columnBytes, rowBytes, codeSymbol, codeConstant, constantNumber, codeNumbers, wordNumbers, loggedNumbers, loggedBytes, logBytes, settingBytes, settingsBytes, countBytes, listingBytes, ClausesListable}
 
-pub as-written : {first more : List ℕ} → Parts (first ++ more) first more
-as-written = record { whole = refl }
-
 -- ── columns ──
 
 column-append : (a b : List Number) → columnBytes (a ++ b) ≡ columnBytes a ++ columnBytes b
@@ -93,16 +90,6 @@ pub literal-first : (arities : List ℕ) (negative : Bool) (code : ℕ) {arity :
     (columnBytes (map (constantNumber code) (upFrom 0 arity)))
 unfolding codeNumbers codeSymbol
 literal-first arities negative code {arity} e = record { whole = rw (← e) (column-append (record { negative = negative; size = code / 32768 % 16 + 1 } ∷ []) (map (constantNumber code) (upFrom 0 arity))) }
-
--- the lists of so many numbers from the i-th on
-module _ (f : ℕ → List ℕ) (n i : ℕ) where
-  pub joined-first : i < n → Parts (joined f (upFrom i (n - i))) (f i) (joined f (upFrom (i + 1) (n - (i + 1))))
-  unfolding joined
-  joined-first h = record { whole = rw (upFrom-more h) }
-
-  pub joined-none : n ≤ i → joined f (upFrom i (n - i)) ≡ []
-  unfolding joined
-  joined-none h = rw (upFrom-none h)
 
 -- the words of a clause from the i-th place on
 module _ (arities table words : List ℕ) (end i : ℕ) where

@@ -1,5 +1,5 @@
 -- Lists place by place: what is made for each place of a list and joined. Assumes nothing.
-use Prim.Native.Nat.{ℕ, suc, _+_}
+use Prim.Native.Nat.{ℕ, suc, _+_, _-_, _≤_, _<_}
 use mathlib.Core.Path.{_≡_, refl, sym, _∙_, ap}
 use mathlib.Core.Option.{some}
 use mathlib.Core.List.{List, [], _∷_, map}
@@ -7,6 +7,8 @@ use native.Mathlib.Omega.{arith}
 use lib.ListN.{length, getElem?}
 use Rattle.definitions.specs.Lists.{joined, upFrom}
 use Rattle.theory.specs.ListLaws.{joined-append}
+use Rattle.encoding.specs.CountLaws.{upFrom-more, upFrom-none}
+use Rattle.listing.specs.Puts.{Parts}
 
 -- what is made from each place of a list is what is made from the element there
 pub map-places : {A B : Type 0} (f : ℕ → B) (g : A → B) (a : ℕ) (xs : List A) → ((i : ℕ) (x : A) → getElem? xs i ≡ some x → f (a + i) ≡ g x)
@@ -33,3 +35,13 @@ joined-places f g xs h =
     sym (joined-map (λ l. l) f (upFrom 0 (length xs)))
     ∙ ap (joined (λ l. l)) (map-places f g 0 xs (λ i x e. let z : 0 + i ≡ i = omega arith in ap f z ∙ h i x e))
     ∙ joined-map (λ l. l) g xs
+
+-- what a loop puts: the lists of so many numbers from the i-th on
+module _ (f : ℕ → List ℕ) (n i : ℕ) where
+  pub joined-first : i < n → Parts (joined f (upFrom i (n - i))) (f i) (joined f (upFrom (i + 1) (n - (i + 1))))
+  unfolding joined
+  joined-first h = record { whole = rw (upFrom-more h) }
+
+  pub joined-none : n ≤ i → joined f (upFrom i (n - i)) ≡ []
+  unfolding joined
+  joined-none h = rw (upFrom-none h)

@@ -5,9 +5,9 @@ use mathlib.Core.List.{List, [], _∷_, _++_}
 use borrow.Author.Needs.{needs}
 use Rattle.definitions.specs.Sheet.{Number, plus}
 use Rattle.definitions.specs.Listing.{fieldBytes, wide, answerNumber}
-use Rattle.listing.specs.Puts.{Putting, put-none-yet, put-room, put-last, put-first-room, put-first, parts-room}
+use Rattle.listing.specs.Puts.{Putting, put-none-yet, put-room, put-last, put-first-room, put-first, parts-room, as-written}
 use Rattle.listing.specs.Lines.{columnBytes, countBytes}
-use Rattle.listing.proofs.Parts.{as-written, no-sign, columns-first, countsBehind, counts-first, counts-wide}
+use Rattle.listing.proofs.Parts.{no-sign, columns-first, countsBehind, counts-first, counts-wide}
 use Rattle.listing.proofs.put_counts.Statement.{statement}
 use Rattle.listing.proofs.put_counts.Tie as tie
 

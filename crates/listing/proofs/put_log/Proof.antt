@@ -5,7 +5,8 @@ use native.Mathlib.Omega.{arith}
 use Rattle.definitions.specs.Lists.{joined, upFrom}
 use Rattle.listing.specs.Puts.{Putting, put-none-yet, put-length, put-first-room, put-first, put-all}
 use Rattle.listing.specs.Lines.{loggedBytes, logBytes}
-use Rattle.listing.proofs.Parts.{joined-first, joined-none, listable-first}
+use Rattle.listing.specs.JoinedLaws.{joined-first, joined-none}
+use Rattle.listing.proofs.Parts.{listable-first}
 use Rattle.listing.proofs.put_log.Statement.{statement}
 use Rattle.listing.proofs.put_log.Tie as tie
 
