@@ -1,4 +1,4 @@
--- Document 01's limits, each by its name. Assumes nothing.
+-- The limits of documents 01 and 02, each by its name. Assumes nothing.
 use Prim.Native.Nat.{ℕ}
 
 -- ── "The sheet" ──
@@ -52,3 +52,13 @@ mostLogged = 512
 
 abbrev pub roomBytes : ℕ
 roomBytes = 45056
+
+-- ── document 02, 2/14 ──
+
+-- goal clauses and logged ones
+abbrev pub mostExported : ℕ
+mostExported = 576
+
+-- question 15
+abbrev pub exportBytes : ℕ
+exportBytes = 16384

@@ -8,10 +8,13 @@ pub mod Questions
 pub mod Search
 pub mod Verdicts
 pub mod Listing
-pub mod Call
-pub mod Sheets
 pub mod Text
+pub mod Dimacs
+pub mod Call
+pub mod Export
+pub mod Sheets
 pub mod Trials
 pub mod Refusals
 pub mod WrongTurns
 pub mod KeepsTrials
+pub mod DimacsTrials

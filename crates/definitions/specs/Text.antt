@@ -1,4 +1,4 @@
--- Text as bytes, for the trials. Assumes nothing.
+-- Text as bytes. Assumes nothing.
 use Prim.Native.Nat.{ℕ}
 use Prim.Native.Char.{code}
 use Prim.Native.String.{String, [] as empty, _∷_ as _then_}
