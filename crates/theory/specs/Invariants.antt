@@ -1,17 +1,18 @@
 -- All that holds of every state of a search, kept by every step: for a proof that follows the search step by step.
 -- Assumes nothing.
 use Prim.Native.Nat.{ℕ, _≤_}
-use mathlib.Core.Path.{_≡_, sym, ap, _∙_}
+use mathlib.Core.Path.{_≡_, sym, ap, _∙_, subst}
 use mathlib.Core.Logic.{inl}
 use mathlib.Core.Option.{Option, none, some}
 use mathlib.Core.List.{List, [], _++_, append-nil, append-assoc}
 use lib.ListN.{length}
 use Rattle.definitions.specs.Words.{Atom, Literal, goalAtoms}
 use Rattle.definitions.specs.Instances.{Task}
-use Rattle.definitions.specs.Search.{State, start, loggedOf, enterTaken, setUnit, logInstance, decide, afterConflict, Outcome, more, done}
+use Rattle.definitions.specs.Search.{State, start, loggedOf, enterTaken, setUnit, logInstance, decide, afterConflict, Outcome, more, done, enough, searchTask}
+use Rattle.definitions.specs.declared.Verdict.{Verdict}
 use Rattle.theory.specs.ListLaws.{Different}
 use Rattle.theory.specs.TableLaws.{enter-different, enter-behind, goal-atoms-different}
-use Rattle.theory.specs.Steps.{Step, unit, undone, refuted, logs, overflows, decides, overspends, rests, After}
+use Rattle.theory.specs.Steps.{Step, unit, undone, refuted, logs, overflows, decides, overspends, rests, After, run-keeps}
 use Rattle.theory.specs.Ends.{Fits, start-fits, step-fits}
 use Rattle.theory.specs.Answers.{Inv, start-inv, step-inv}
 use Rattle.theory.specs.Choices.{choiceWorld, choice-laws}
@@ -67,3 +68,10 @@ step-sound k budget s c (more u) d =
     record { fits = step-fits k budget s (c .fits) (more u) d; inv = step-inv k (choiceWorld k) (choice-laws k) budget s (c .inv .logOk) (c .inv) (more u) d; sourced = step-sourced k budget s (c .sourced) (more u) d; tabled = step-tabled k budget s (c .tabled) (more u) d }
 step-sound k budget s c (done v u) d =
     record { fits = step-fits k budget s (c .fits) (done v u) d; inv = step-inv k (choiceWorld k) (choice-laws k) budget s (c .inv .logOk) (c .inv) (done v u) d .0; sourced = step-sourced k budget s (c .sourced) (done v u) d; tabled = step-tabled k budget s (c .tabled) (done v u) d }
+
+-- so they hold where a search ends
+pub search-sound : (k : Task) (budget : ℕ) (v : Verdict) (s : State) → length (goalAtoms (k .clauses)) ≤ 256 → searchTask k budget ≡ done v s → Sound k s
+unfolding searchTask
+search-sound k budget v s h e =
+    subst (After (Sound k) (λ v s. Sound k s)) e
+    (run-keeps k budget (Sound k) (λ v s. Sound k s) (step-sound k budget) (enough budget) (start k) (start-sound k h))

@@ -26,3 +26,8 @@ pub mod CallLaws
 pub mod Demand3
 pub mod Quiet
 pub mod PlaceLaws
+pub mod CnfText
+pub mod CnfReads
+pub mod CnfRefusals
+pub mod Exports
+pub mod ExportLaws

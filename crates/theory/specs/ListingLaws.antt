@@ -33,7 +33,7 @@ pub record FieldFits (f : Field) : Type 0 where
   pub size : f .number .size < 10 ^ digitRoom f
 
 -- a number below 10 ^ k has at most k digits
-decimals-length : (w n k : ℕ) → 1 ≤ k → n < 10 ^ k → length (decimals w n) ≤ k
+pub decimals-length : (w n k : ℕ) → 1 ≤ k → n < 10 ^ k → length (decimals w n) ≤ k
 unfolding decimals
 decimals-length zero n k l h = omega arith
 decimals-length (suc w) n zero l h = absurd (omega arith)

@@ -71,13 +71,13 @@ module _ (p : Problem) (limits : Limits p) where
       }
 
   -- an instance: its rule's number, its heads, and its literals
-  record InstanceListable (i : Instance) : Type 0 where
-    rule : i .rule < 10000
-    heads : length (i .heads) ≤ 3
-    head : (l : Literal) → l ∈ i .heads → AtomListable (l .atom)
-    body : (l : Literal) → l ∈ i .body → AtomListable (l .atom)
+  pub record InstanceListable (i : Instance) : Type 0 where
+    pub rule : i .rule < 10000
+    pub heads : length (i .heads) ≤ 3
+    pub head : (l : Literal) → l ∈ i .heads → AtomListable (l .atom)
+    pub body : (l : Literal) → l ∈ i .body → AtomListable (l .atom)
 
-  instance-listable : (i : Instance) → i ∈ taskOf p .instances → InstanceListable i
+  pub instance-listable : (i : Instance) → i ∈ taskOf p .instances → InstanceListable i
   unfolding taskOf
   instance-listable i m =
       let f = instance-filled (p .constants) 1 (p .rules) i m in
