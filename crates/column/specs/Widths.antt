@@ -48,6 +48,17 @@ decimals-below (suc places) (suc k) n h =
     (λ one. rw (decimals-last places n one) (omega arith))
     (λ more. rw (decimals-more places n more, length-append) (omega (arith, decimals-below places k (n / 10) (omega (arith, pow-suc 10 (suc k))))))
 
+-- places for the digits alone are enough
+pub decimals-exact : (places n : ℕ) → decimals (length (decimals places n)) n ≡ decimals places n
+unfolding decimals
+decimals-exact zero n = refl
+decimals-exact (suc places) n =
+    let own = length (decimals places (n / 10)) in
+    let one-more : own + 1 ≡ suc own = omega arith in
+    by-digits n
+    (λ one. rw (decimals-last places n one) (decimals-last 0 n one))
+    (λ more. rw (decimals-more places n more, length-append, one-more, decimals-more own n more, decimals-exact places (n / 10)))
+
 -- a sign, and digits
 pub signed-parts : (places : ℕ) (n : Number) → signedDecimals places n ≡ sign (n .negative) ++ decimals places (n .size)
 unfolding signedDecimals sign

@@ -113,7 +113,7 @@ pub fn read_column(s: &[u8], at: usize) -> ColumnRead
 }
 
 // The digits of `size` in the last of the places from `at` on; how many places are left before them.
-fn put_digits(room: &mut [u8], at: usize, width: usize, size: u64) -> usize
+pub fn put_digits(room: &mut [u8], at: usize, width: usize, size: u64) -> usize
     requires { ⌜ at + width ≤ length (now room) ⌝ }
     ensures { λ r. ⌜ PutLast (now (room .entry)) at width (decimals width size) r (now (room .exit)) ⌝ }
 {

@@ -55,7 +55,7 @@ words-length gs (c ∷ cs) =
 
 -- ── lengths ──
 
-pub starts-length : (at : ℕ) (cs : List Clause) → length (startsFrom at cs) ≡ length cs + 1
+pub starts-length : {A : Type 0} (at : ℕ) (cs : List (List A)) → length (startsFrom at cs) ≡ length cs + 1
 unfolding startsFrom
 starts-length at [] = refl
 starts-length at (c ∷ cs) = omega (arith, starts-length (at + length c) cs)

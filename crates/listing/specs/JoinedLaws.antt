@@ -29,12 +29,15 @@ unfolding joined
 joined-joined f g [] = refl
 joined-joined f g (x ∷ xs) = cc (joined-append f (g x) (joined g xs), joined-joined f g xs)
 
+-- from any first place, and from place 0
+pub joined-places-from : {A B : Type 0} (f : ℕ → List B) (g : A → List B) (a : ℕ) (xs : List A)
+    → ((i : ℕ) (x : A) → getElem? xs i ≡ some x → f (a + i) ≡ g x) → joined f (upFrom a (length xs)) ≡ joined g xs
+joined-places-from f g a xs h =
+    sym (joined-map (λ l. l) f (upFrom a (length xs))) ∙ ap (joined (λ l. l)) (map-places f g a xs h) ∙ joined-map (λ l. l) g xs
+
 pub joined-places : {A B : Type 0} (f : ℕ → List B) (g : A → List B) (xs : List A) → ((i : ℕ) (x : A) → getElem? xs i ≡ some x → f i ≡ g x)
     → joined f (upFrom 0 (length xs)) ≡ joined g xs
-joined-places f g xs h =
-    sym (joined-map (λ l. l) f (upFrom 0 (length xs)))
-    ∙ ap (joined (λ l. l)) (map-places f g 0 xs (λ i x e. let z : 0 + i ≡ i = omega arith in ap f z ∙ h i x e))
-    ∙ joined-map (λ l. l) g xs
+joined-places f g xs h = joined-places-from f g 0 xs (λ i x e. let z : 0 + i ≡ i = omega arith in ap f z ∙ h i x e)
 
 -- what a loop puts: the lists of so many numbers from the i-th on
 module _ (f : ℕ → List ℕ) (n i : ℕ) where

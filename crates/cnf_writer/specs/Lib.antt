@@ -1,0 +1,2 @@
+pub mod CnfBytes
+pub mod CnfStands
