@@ -1,0 +1,5 @@
+pub mod Places
+pub mod Numbers
+pub mod ClauseLines
+pub mod Clauses
+pub mod Answers

@@ -1,0 +1,4 @@
+pub mod Parts
+pub mod CnfArrays
+pub mod CnfArrayLaws
+pub mod Lines
