@@ -1,4 +1,6 @@
 pub mod Solving
 pub mod SolvingLaws
 pub mod PrintLaws
+pub mod Exporting
+pub mod ExportingLaws
 pub mod Promises

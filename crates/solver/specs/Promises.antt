@@ -3,17 +3,23 @@
 -- back `call` and `listedPart` and leave `roomAfter` in the room, for all bytes, budgets and rooms, and they require nothing. Here
 -- stands what these three are: demand 1, demand 2 and demand 3. The words are those of document 01, each defined in the crate
 -- `definitions`; what is taken from the theory are proofs. Assumes nothing.
-use Prim.Native.Nat.{ℕ}
+use Prim.Native.Nat.{ℕ, _≤_}
 use mathlib.Core.Path.{_≡_}
+use mathlib.Core.Logic.{_⊎_}
 use mathlib.Core.Bool.{false}
-use mathlib.Core.List.{List}
+use mathlib.Core.List.{List, _++_}
+use lib.ListN.{length, take}
 use Rattle.definitions.specs.Lists.{_∈_}
+use Rattle.definitions.specs.Bounds.{roomBytes, mostAtoms, mostExported, exportBytes}
 use Rattle.definitions.specs.Words.{Rule, Problem}
 use Rattle.definitions.specs.Instances.{taskOf}
 use Rattle.definitions.specs.Meaning.{Choice, Fails, Assignment, Satisfies}
-use Rattle.definitions.specs.Questions.{connected, accepted, read}
+use Rattle.definitions.specs.Questions.{connected, no, yes, accepted, read}
+use Rattle.definitions.specs.Search.{State, done, search}
 use Rattle.definitions.specs.Verdicts.{FirstChoice, SpentWhen, FullWhen}
-use Rattle.definitions.specs.Call.{Comes, FromSearch}
+use Rattle.definitions.specs.Dimacs.{Cnf, cnfOf, headerLine, cnfText, readCnf, CnfLimits}
+use Rattle.definitions.specs.Call.{call, roomAfter, Comes, FromSearch}
+use Rattle.definitions.specs.Export.{exportCall, exportText, roomAfterExport, exportAfter, ExportComes}
 use Rattle.definitions.specs.Sheets.{Accepted, Answers, Keeps, HeadAmong, Shares, Apart}
 use Rattle.definitions.specs.declared.Verdict.{Verdict}
 use Rattle.definitions.specs.declared.Verdict.the-variants.{Unsat, Unknown, Spent, Full}
@@ -21,6 +27,10 @@ use Rattle.theory.specs.Theorems.{unsat, unknown, spent, full}
 use Rattle.theory.specs.CallLaws.{call-comes, answer-from-search, its-search}
 use Rattle.theory.specs.Demand3.{never-satisfied, never-unknown}
 use Rattle.theory.specs.Connected.{connected-heads, head-apart}
+use Rattle.theory.specs.CnfReads.{cnf-round-trip, cnf-exact}
+use Rattle.theory.specs.CnfRefusals.{cnf-refusals, bad-header, good-header}
+use Rattle.theory.specs.Exports.{export-size}
+use Rattle.theory.specs.ExportLaws.{export-comes, export-as-first-call, exported-read-back}
 
 module _ (sheet : List ℕ) (budget : ℕ) (room : List ℕ) where
   -- ── demand 1 ──
@@ -75,3 +85,47 @@ request-1 = connected-heads
 -- and a rule that fails the test of question 14, `connected`, has a head that doesn't.
 pub request-1-only : (r : Rule) → connected r ≡ false → (h : HeadAmong r) × Apart h
 request-1-only = head-apart
+
+-- 2/14. The contract of `export` says that it hands back `exportCall` with the length of `exportText`, and leaves `roomAfterExport` and
+-- `exportAfter` in its rooms; that of `read_cnf`, that it hands back what `readCnf` gives. They require nothing either.
+module _ (sheet : List ℕ) (budget : ℕ) (room export : List ℕ) where
+  -- An export ends with the number of the first question that fails, 1, then 15, then the sheet's, and both rooms are unchanged; or with
+  -- the record, the listing in its room, and the text at the front of the export room with the bytes behind it unchanged.
+  pub request-2 : ExportComes sheet budget room export
+  request-2 = export-comes sheet budget room export
+
+  module _ (large : roomBytes ≤ length room) (wide : exportBytes ≤ length export) where
+    -- It hands back the record and leaves the listing room as the first call does.
+    pub request-2-first-call : (exportCall sheet budget room export ≡ call sheet budget room) × (roomAfterExport sheet budget room export ≡ roomAfter sheet budget room)
+    request-2-first-call = export-as-first-call sheet budget room export large wide
+
+    module _ (p : Problem) (reads : read sheet ≡ accepted p) (v : Verdict) (s : State) (ends : search p budget ≡ done v s) where
+      -- Whatever the answer, reading what was exported gives back the goal clauses and then the log, repeated literals too.
+      pub request-2-read-back : readCnf (take (length (exportText sheet budget room export)) (exportAfter sheet budget room export)) ≡ yes (cnfOf (p .clauses) s)
+      request-2-read-back = exported-read-back sheet budget room export large wide p reads v s ends
+
+-- The text always fits the room that question 15 asks for.
+pub request-2-size : (sheet : List ℕ) (p : Problem) → read sheet ≡ accepted p → (budget : ℕ) (v : Verdict) (s : State) → search p budget ≡ done v s
+    → length (cnfText (cnfOf (p .clauses) s)) ≤ 13454
+request-2-size = export-size
+
+-- Whatever clauses there are within the limits, reading what is written gives them back;
+pub request-2-round-trip : (c : Cnf) → CnfLimits c → readCnf (cnfText c) ≡ yes c
+request-2-round-trip = cnf-round-trip
+
+-- and nothing else is read.
+pub request-2-nothing-else : (text : List ℕ) (c : Cnf) → readCnf text ≡ yes c → (text ≡ cnfText c) × CnfLimits c
+request-2-nothing-else = cnf-exact
+
+-- A text that is not read is refused with 21 or 22:
+pub request-2-refusals : (text : List ℕ) (q : ℕ) → readCnf text ≡ no q → (q ≡ 21) ⊎ (q ≡ 22)
+request-2-refusals = cnf-refusals
+
+-- with 21 only where the first line is no header of at most 256 atoms and 576 clauses, with 22 only where it is one.
+pub request-2-bad-header : (text : List ℕ) → readCnf text ≡ no 21 → (atoms clauses : ℕ) → atoms ≤ mostAtoms → clauses ≤ mostExported
+    → (rest : List ℕ) → text ≡ headerLine atoms clauses ++ rest → ⊥
+request-2-bad-header = bad-header
+
+pub request-2-good-header : (text : List ℕ) → readCnf text ≡ no 22
+    → (atoms : ℕ) × (clauses : ℕ) × (rest : List ℕ) × (atoms ≤ mostAtoms) × (clauses ≤ mostExported) × (text ≡ headerLine atoms clauses ++ rest)
+request-2-good-header = good-header

@@ -21,7 +21,7 @@ use machine::Ended;
 use pipe::Reached;
 
 // The listing and the counts of a search that has ended, from its arrays.
-fn listed(
+pub fn listed(
     room: &mut [u8],
     given: usize,
     ended: Ended,

@@ -2,10 +2,12 @@
 // The promises about them stand in specs/Promises.antt.
 mod lent; // lent.rt: the questions about what is lent
 mod answering; // answering.rt: reading, searching and listing
+mod exporting; // exporting.rt: the same, and the clauses as DIMACS CNF
 
 ghost use mathlib.Core.Path.{_≡_};
 ghost use lib.ListN.{length};
 ghost use Rattle.definitions.specs.Call.{result, call, listedPart, roomAfter, written, printed};
+ghost use Rattle.definitions.specs.Export.{exportCall, exportText, roomAfterExport, exportAfter, printedCnf};
 ghost use Rattle.solver.specs.Solving.{SolvedAs};
 use definitions::Answer;
 use definitions::Refusal;
@@ -13,11 +15,20 @@ use definitions::Refusal;
 // The room that a call asks for.
 pub const ROOM: usize = 45056;
 
+// The further room that an export asks for.
+pub const EXPORT_ROOM: usize = 16384;
+
 // A buffer for a sheet: with one byte more than a sheet may have, a longer one shows.
 pub const SHEET_BUFFER: usize = sheet::SHEET_BYTES + 1;
 
 // The answer, and how many bytes at the room's front hold the listing.
 pub struct Solved {
+    pub answer: Answer,
+    pub length: usize,
+}
+
+// The answer of an export, and how many bytes at the front of its room hold the text.
+pub struct Exported {
     pub answer: Answer,
     pub length: usize,
 }
@@ -72,5 +83,37 @@ pub fn print(sheet: &[u8], budget: u32, room: &mut [u8; ROOM]) -> usize
     match answer {
         Answer::Answered(_) => solved.length,
         Answer::Refused(refusal) => listing::put_refusal(room, refusal.number, refusal.line),
+    }
+}
+
+// The export call: hands back the answer and leaves the listing room as the first call does, and leaves the goal clauses and the log as
+// DIMACS CNF at the front of a further room.
+pub fn export(sheet: &[u8], budget: u32, room: &mut [u8], cnf: &mut [u8]) -> Exported
+    ensures { λ r. ⌜ (r .answer ≡ exportCall (now (sheet .entry)) budget (now (room .entry)) (now (cnf .entry)))
+        × (r .length ≡ length (exportText (now (sheet .entry)) budget (now (room .entry)) (now (cnf .entry))))
+        × (now (room .exit) ≡ roomAfterExport (now (sheet .entry)) budget (now (room .entry)) (now (cnf .entry)))
+        × (now (cnf .exit) ≡ exportAfter (now (sheet .entry)) budget (now (room .entry)) (now (cnf .entry))) ⌝ }
+{
+    let number = lent::first_short_export(room.len(), cnf.len());
+    if number != 0 {
+        return Exported {
+            answer: Answer::Refused(Refusal { number, line: 0 }),
+            length: 0,
+        };
+    }
+    exporting::exported(sheet, budget, room, cnf)
+}
+
+// What the program prints of a sheet for its word `cnf`, at the front of the room: the text, or the line of a refusal. How many bytes
+// it has.
+pub fn print_cnf(sheet: &[u8], budget: u32, cnf: &mut [u8; EXPORT_ROOM]) -> usize
+    ensures { λ r. ⌜ (r ≡ length (printedCnf (now (sheet .entry)) budget)) × (now (cnf .exit) ≡ written (printedCnf (now (sheet .entry)) budget) (now (cnf .entry))) ⌝ }
+{
+    let mut room = [0u8; ROOM];
+    let exported = export(sheet, budget, &mut room, cnf);
+    let answer = exported.answer;
+    match answer {
+        Answer::Answered(_) => exported.length,
+        Answer::Refused(refusal) => listing::put_refusal(cnf, refusal.number, refusal.line),
     }
 }
