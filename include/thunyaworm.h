@@ -9,8 +9,16 @@
 /* The bytes that a room must have; of a smaller one a call is refused with 1. */
 #define THUNYAWORM_ROOM 45056
 
-/* The most values that the first call puts into the places. */
+/* The bytes that the further room of an export must have; of a smaller one it is refused with 15. */
+#define THUNYAWORM_EXPORT 16384
+
+/* The most values that a call on a sheet puts into the places. */
 #define THUNYAWORM_PLACES 5
+
+/* What the reader of DIMACS CNF asks for: where clauses start, literals, and places. */
+#define THUNYAWORM_CNF_STARTS 577
+#define THUNYAWORM_CNF_LITERALS 4608
+#define THUNYAWORM_CNF_PLACES 3
 
 /* The first call: the listing stands at the front of the room. For a refusal its number and line are put into the places, and 2 is
    handed back; otherwise the answer (0 UNSAT, 1 UNKNOWN, 2 SPENT, 3 FULL), the atoms, logged clauses, decisions and conflicts, and 5.
@@ -21,5 +29,18 @@ size_t thunyaworm_solve(const uint8_t *sheet, size_t sheet_length, uint32_t budg
 /* The second call: leaves the room as the first does, and hands back how many bytes at its front hold the listing, 0 for a refusal. */
 size_t thunyaworm_listing(const uint8_t *sheet, size_t sheet_length, uint32_t budget,
                           uint8_t *room, size_t room_length);
+
+/* The export call: leaves the room and fills the places as the first call does, and leaves the goal clauses and then the log as DIMACS
+   CNF at the front of the export room. Hands back how many bytes the text has, 0 for a refusal, which changes neither room.
+   With fewer than five places nothing is done, and 0 is handed back. */
+size_t thunyaworm_export(const uint8_t *sheet, size_t sheet_length, uint32_t budget, uint8_t *room, size_t room_length,
+                         uint8_t *export_room, size_t export_length, uint64_t *places, size_t places_length);
+
+/* The reader of such a text. If it is none, 21 (the header) or 22 (the clauses) is put into the places, and 1 is handed back. Otherwise
+   0, the atoms and the clauses are put there, and 3 is handed back: clause i, from 0, has the literals from starts[i] up to
+   starts[i + 1], each twice its atom's number, and 1 more where it is negated; what is behind the last of them is 0.
+   With fewer than 577 starts, 4,608 literals or three places nothing is done, and 0 is handed back. */
+size_t thunyaworm_read_cnf(const uint8_t *text, size_t text_length, uint16_t *starts, size_t starts_length,
+                           uint16_t *literals, size_t literals_length, uint64_t *places, size_t places_length);
 
 #endif

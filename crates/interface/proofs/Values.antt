@@ -1,17 +1,18 @@
--- The values of an answer, stored one by one; and what is handed, by the number of places. Assumes nothing.
+-- The values of an answer, stored one by one; and what is handed, by whether enough is lent. Assumes nothing.
 use Prim.Native.Nat.{ℕ, _≤_, _<_}
 use mathlib.Core.Path.{_≡_, refl}
+use mathlib.Core.Bool.{true, false}
 use mathlib.Core.List.{List}
 use lib.ListN.{length, set}
 use lib.Seq.{sets}
 use borrow.Author.Tests.{le-leb, lt-leb}
 use Rattle.definitions.specs.Listing.{answerNumber}
-use Rattle.definitions.specs.Call.{call, roomAfter, values}
+use Rattle.definitions.specs.Call.{values}
 use Rattle.definitions.specs.declared.Refusal.{Refusal}
 use Rattle.definitions.specs.declared.Counts.{Counts}
 use Rattle.definitions.specs.declared.Answer.{Answer}
 use Rattle.definitions.specs.declared.Answer.the-variants.{Refused, Answered}
-use Rattle.interface.specs.Exported.{handed, roomLeft}
+use Rattle.interface.specs.Handed.{fivePlaces}
 
 module _ (places : List ℕ) (answer : Answer) where
   pub refusal-stored : (f : Refusal) → answer ≡ Refused f
@@ -24,14 +25,13 @@ module _ (places : List ℕ) (answer : Answer) where
   unfolding values
   counts-stored c e n d = rw (e, d) (refl, refl)
 
-module _ (sheet : List ℕ) (budget : ℕ) (room places : List ℕ) where
-  pub too-few : length places < 5
-      → (0 ≡ length (handed sheet budget room places)) × (places ≡ sets places 0 (handed sheet budget room places)) × (room ≡ roomLeft sheet budget room places)
-  unfolding handed roomLeft
-  too-few h = rw (lt-leb 5 (length places) h, handed, roomLeft) (refl, refl, refl)
+-- ── enough is lent, or not ──
 
-  pub five-or-more : 5 ≤ length places → {answer : Answer} → answer ≡ call sheet budget room → {n : ℕ} {placesAfter roomAfter′ : List ℕ}
-      → n ≡ length (values answer) → placesAfter ≡ sets places 0 (values answer) → roomAfter′ ≡ roomAfter sheet budget room
-      → (n ≡ length (handed sheet budget room places)) × (placesAfter ≡ sets places 0 (handed sheet budget room places)) × (roomAfter′ ≡ roomLeft sheet budget room places)
-  unfolding handed roomLeft
-  five-or-more h c d e f = rw (le-leb 5 (length places) h, handed, roomLeft, ← c) (d, e, f)
+module _ (places : List ℕ) where
+  pub five-lent : 5 ≤ length places → fivePlaces places ≡ true
+  unfolding fivePlaces
+  five-lent h = le-leb 5 (length places) h
+
+  pub too-few : length places < 5 → fivePlaces places ≡ false
+  unfolding fivePlaces
+  too-few h = lt-leb 5 (length places) h

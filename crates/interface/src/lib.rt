@@ -1,13 +1,16 @@
 // The calls for programs in C and Rust: numbers, and slices as a pointer and a length.
+mod cnf; // cnf.rt: the export call, and the reader of DIMACS CNF
+
 ghost use Prim.Native.Nat.{_≤_};
 ghost use mathlib.Core.Path.{_≡_};
+ghost use mathlib.Core.List.{[]};
 ghost use lib.ListN.{length};
 ghost use lib.Seq.{sets};
-ghost use Rattle.definitions.specs.Call.{listedPart, roomAfter, values as valuesOf};
-ghost use Rattle.interface.specs.Exported.{handed, roomLeft};
+ghost use Rattle.definitions.specs.Call.{call, listedPart, roomAfter, values as valuesOf};
+ghost use Rattle.interface.specs.Handed.{lentOr, fivePlaces};
 use definitions::Answer;
 
-// The most values that the first call puts into the places.
+// The most values that a call on a sheet puts into the places.
 pub const PLACES: usize = 5;
 
 // The values of an answer at the front of the places: how many there are.
@@ -43,9 +46,9 @@ pub extern "C" fn thunyaworm_solve(
     room: &mut [u8],
     places: &mut [u64],
 ) -> usize
-    ensures { λ r. ⌜ (r ≡ length (handed (now (sheet .entry)) budget (now (room .entry)) (now (places .entry))))
-        × (now (places .exit) ≡ sets (now (places .entry)) 0 (handed (now (sheet .entry)) budget (now (room .entry)) (now (places .entry))))
-        × (now (room .exit) ≡ roomLeft (now (sheet .entry)) budget (now (room .entry)) (now (places .entry))) ⌝ }
+    ensures { λ r. ⌜ (r ≡ length (lentOr (fivePlaces (now (places .entry))) (valuesOf (call (now (sheet .entry)) budget (now (room .entry)))) []))
+        × (now (places .exit) ≡ sets (now (places .entry)) 0 (lentOr (fivePlaces (now (places .entry))) (valuesOf (call (now (sheet .entry)) budget (now (room .entry)))) []))
+        × (now (room .exit) ≡ lentOr (fivePlaces (now (places .entry))) (roomAfter (now (sheet .entry)) budget (now (room .entry))) (now (room .entry))) ⌝ }
 {
     if places.len() < PLACES {
         return 0;
