@@ -1,10 +1,10 @@
--- `thunyaworm::main` is safe: what is printed lies in the room. Assumes nothing.
+-- `thunyaworm::print_listing` is safe: what is printed lies in the room. Assumes nothing.
 use mathlib.Core.Path.{sym}
 use lib.Seq.{length-take-le}
 use borrow.Author.Needs.{needs}
 use Rattle.solver.specs.SolvingLaws.{written-fits}
-use Rattle.thunyaworm.proofs.main.Statement.{statement}
-use Rattle.thunyaworm.proofs.main.Tie as tie
+use Rattle.thunyaworm.proofs.print_listing.Statement.{statement}
+use Rattle.thunyaworm.proofs.print_listing.Tie as tie
 
 slice-aggregate-read-full : tie.Need-slice-aggregate-read-full
 slice-aggregate-read-full c = search needs
@@ -35,8 +35,8 @@ write-all-requires c κs = search needs
 returns : tie.Need-returns
 returns c = search needs
 
-pub main-spec : {M : Type 1} → statement M
-main-spec =
+pub print-listing-spec : {M : Type 1} → statement M
+print-listing-spec =
     tie.close
     (tie.spec
     slice-aggregate-read-full
