@@ -1,20 +1,53 @@
 //! The arguments of a call, and how they are shown.
 
+/// Arguments that can be shown.
+pub trait InWords {
+    fn in_words(&self) -> String;
+}
+
+/// A call on a sheet.
 #[derive(Clone)]
 pub struct Case {
     pub sheet: Vec<u8>,
     pub budget: u32,
     pub room: usize,
+    /// The length of the export room; without one there is no export.
+    pub export: Option<usize>,
 }
 
-impl Case {
-    pub fn in_words(&self) -> String {
+impl InWords for Case {
+    fn in_words(&self) -> String {
         let length = self.sheet.len();
+        let export = self
+            .export
+            .map_or_else(String::new, |export| format!("export room {export}, "));
         format!(
-            "budget {}, room {}, sheet of {length} bytes:\n{}",
+            "budget {}, room {}, {export}sheet of {length} bytes:\n{}",
             self.budget,
             self.room,
             printable(&self.sheet)
+        )
+    }
+}
+
+/// A call of the reader of DIMACS CNF, with the lengths of what is lent.
+#[derive(Clone)]
+pub struct Reading {
+    pub text: Vec<u8>,
+    pub starts: usize,
+    pub literals: usize,
+    pub places: usize,
+}
+
+impl InWords for Reading {
+    fn in_words(&self) -> String {
+        let length = self.text.len();
+        format!(
+            "{} starts, {} literals, {} places, text of {length} bytes:\n{}",
+            self.starts,
+            self.literals,
+            self.places,
+            printable(&self.text)
         )
     }
 }

@@ -1,8 +1,10 @@
 //! One sheet compared: what the reader, the search and the meaning expect against what the library's
-//! two calls do.
+//! calls do.
 
-use crate::case::{printable, Case};
+use crate::case::{printable, Case, InWords};
+use crate::dimacs::Cnf;
 use crate::ended::Ended;
+use crate::export;
 use crate::interface::{self, Listed, Room, Solved};
 use crate::listing;
 use crate::meaning::{self, Meaning};
@@ -21,6 +23,7 @@ enum Expected {
         ended: Ended,
         events: Events,
         listing: Vec<u8>,
+        cnf: Cnf,
     },
     TooLarge,
 }
@@ -43,11 +46,13 @@ fn expect(case: &Case) -> Expected {
             None => Expected::TooLarge,
             Some((ended, events)) => {
                 let listing = listing::write(&ended, &problem);
+                let cnf = Cnf::of(&problem, &ended);
                 Expected::Ended {
                     problem,
                     ended,
                     events,
                     listing,
+                    cnf,
                 }
             }
         },
@@ -62,6 +67,9 @@ pub fn check(case: &Case) -> Result<Same, Vec<String>> {
     }
     let (first, second) = interface::both_calls(case);
     let mut differences = Vec::new();
+    if let Some(length) = case.export {
+        compare_export(case, length, &expected, &mut differences);
+    }
     let same = match expected {
         Expected::Refused(refusal) => {
             compare(
@@ -78,6 +86,7 @@ pub fn check(case: &Case) -> Result<Same, Vec<String>> {
             ended,
             events,
             listing,
+            ..
         } => {
             compare(&first, &second, &ended.values(), &listing, &mut differences);
             let by_meaning = compare_meaning(&first, &second, &problem, &mut differences);
@@ -135,13 +144,46 @@ fn compare(
     }
 }
 
-/// A room after its call: the listing at its front, all other bytes as they were.
-fn compare_room(call: &str, room: &Room, listing: &[u8], differences: &mut Vec<String>) {
-    if room.front(listing.len()) != listing {
+/// A room after its call: what was written at its front, all other bytes as they were.
+pub fn compare_room(call: &str, room: &Room, written: &[u8], differences: &mut Vec<String>) {
+    if room.front(written.len()) != written {
         differences.push(format!("{call}: other bytes at the room's front"));
     }
-    if !room.unchanged_behind(listing.len()) {
-        differences.push(format!("{call}: bytes behind the listing are changed"));
+    if !room.unchanged_behind(written.len()) {
+        differences.push(format!("{call}: bytes behind are changed"));
+    }
+}
+
+/// The export call with an export room of this length.
+fn compare_export(case: &Case, length: usize, expected: &Expected, differences: &mut Vec<String>) {
+    let first = match expected {
+        Expected::Refused(refusal) => Some(*refusal),
+        _ => None,
+    };
+    match (export::refusal(first, length), expected) {
+        (Some(refusal), _) => {
+            let values = [refusal.number, refusal.line];
+            export::compare(case, length, &values, b"", None, differences);
+        }
+        (
+            None,
+            Expected::Ended {
+                ended,
+                listing,
+                cnf,
+                ..
+            },
+        ) => {
+            export::compare(
+                case,
+                length,
+                &ended.values(),
+                listing,
+                Some(cnf),
+                differences,
+            );
+        }
+        _ => (),
     }
 }
 
@@ -192,9 +234,15 @@ pub fn describe(case: &Case, differences: &[String]) -> String {
             refusal.number, refusal.line
         )),
         Expected::Ended {
-            problem, listing, ..
+            problem,
+            listing,
+            cnf,
+            ..
         } => {
             text.push_str(&printable(&listing));
+            if case.export.is_some() {
+                text.push_str(&printable(&cnf.text()));
+            }
             match meaning::decide(&problem) {
                 Meaning::NoChoiceIsGood => text.push_str("by the meaning: no choice is good\n"),
                 Meaning::First(_) => text.push_str("by the meaning: some choice is good\n"),
@@ -209,6 +257,9 @@ pub fn describe(case: &Case, differences: &[String]) -> String {
         first.values, second.length
     ));
     text.push_str(&printable(second.room.front(second.length)));
+    if let Some(length) = case.export {
+        text.push_str(&export::describe(case, length));
+    }
     text.push_str("differences:\n");
     for difference in differences {
         text.push_str(&format!("- {difference}\n"));

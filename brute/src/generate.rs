@@ -1,11 +1,15 @@
 //! Random sheets of many shapes, small enough that their meaning can be enumerated, with budgets and
-//! rooms. One sheet in four or so is damaged afterwards.
+//! rooms; some of them to be exported. One sheet in four or so is damaged afterwards.
 
 use crate::case::Case;
 use crate::damage;
+use crate::export::EXPORT;
 use crate::random::Random;
 use crate::reader::{ROOM, SHEET};
 use crate::rows::{clause, negated, rule, text, Row};
+
+/// The share of sheets that are exported, in percent: the export searches once more.
+const EXPORTED: usize = 35;
 
 pub fn case(random: &mut Random) -> Case {
     let (mut sheet, limits) = sheet(random);
@@ -18,6 +22,7 @@ pub fn case(random: &mut Random) -> Case {
         sheet,
         budget: budget(random),
         room: room(random),
+        export: random.percent(EXPORTED).then(|| export(random)),
     }
 }
 
@@ -52,6 +57,15 @@ fn room(random: &mut Random) -> usize {
         1 => random.below(ROOM),
         2..=40 => ROOM + random.below(200),
         _ => ROOM,
+    }
+}
+
+fn export(random: &mut Random) -> usize {
+    match random.below(100) {
+        0 => EXPORT - 1,
+        1 => random.below(EXPORT),
+        2..=11 => EXPORT + random.below(200),
+        _ => EXPORT,
     }
 }
 

@@ -107,6 +107,7 @@ pub fn check_larger(random: &mut Random, second: &[u8]) -> Result<Outcome, (Case
             sheet: second.to_vec(),
             budget,
             room: ROOM,
+            export: None,
         };
         match check(&case) {
             Err(differences) => return Err((case, differences)),
@@ -129,6 +130,7 @@ pub fn check_larger(random: &mut Random, second: &[u8]) -> Result<Outcome, (Case
                 sheet: second.to_vec(),
                 budget: 0,
                 room: ROOM,
+                export: None,
             };
             return Err((
                 case,

@@ -1,6 +1,6 @@
 //! brute [SEED [COUNT]]: random sheets, each decided from its meaning and by a second implementation
-//! of document 01's search, compared with the library's two calls.
-//! brute --vectors FOLDER: stored sheets and listings instead.
+//! of document 01's search, compared with the library's calls; and random texts for its reader of DIMACS CNF.
+//! brute --vectors FOLDER: stored sheets with listings and exports, and stored texts, instead.
 //!
 //! Nothing here is shared with the solver. The last line tells the differences; exit status 1 if there
 //! are any, if a long run never met an answer or a refusal that can come up, or if a call hangs.
@@ -8,7 +8,9 @@
 mod case;
 mod check;
 mod damage;
+mod dimacs;
 mod ended;
+mod export;
 mod generate;
 mod interface;
 mod larger;
@@ -17,19 +19,23 @@ mod meaning;
 mod problem;
 mod random;
 mod reader;
+mod reading;
 mod rows;
 mod search;
 mod shrink;
 mod stored;
 mod tally;
+mod texts;
 mod told;
 mod vectors;
 mod watch;
 
-use case::{printable, Case};
+use case::{printable, Case, Reading};
 use check::Same;
 use ended::Verdict;
+use interface::{THUNYAWORM_EXPORT, THUNYAWORM_ROOM};
 use random::Random;
+use reader::SHEET;
 use std::path::Path;
 use std::process::ExitCode;
 use std::time::{Duration, Instant};
@@ -38,6 +44,9 @@ use tally::Tally;
 const SEED: u64 = 20_230_517;
 /// About 40 seconds.
 const COUNT: u64 = 90_000;
+/// The share of sheets with which a text comes, in percent; the texts' random numbers have another seed.
+const TEXTS: usize = 50;
+const TEXT_SEED: u64 = 0x7465_7874;
 /// A run ends at so many differences.
 const ENOUGH: u64 = 3;
 /// A call of the library needs about 1.5 MB of stack.
@@ -89,30 +98,31 @@ fn usage() -> bool {
 fn random_sheets(seed: u64, count: u64) -> bool {
     let mut tally = Tally::default();
     let mut differences = 0;
-    watch::sheet("with fewer than five places".into());
-    let smallest = Case {
-        sheet: b"   1   1\n".to_vec(),
-        budget: 0,
-        room: interface::THUNYAWORM_ROOM,
-    };
-    if !interface::needs_its_places(&smallest) {
+    for report in edges() {
         differences += 1;
-        println!("with fewer than five places the first call does not leave all unchanged and hand back 0");
+        println!("{report}");
     }
     let mut told = Instant::now();
     for index in 0..count {
+        if differences >= ENOUGH {
+            break;
+        }
         if told.elapsed() > Duration::from_secs(5) {
             eprintln!("brute: {index} of {count} sheets, seed {seed}");
             told = Instant::now();
         }
         tally.sheets += 1;
-        watch::sheet(format!("sheet {index} of seed {seed}"));
+        let name = format!("sheet {index} of seed {seed}");
+        watch::from(name.clone());
         if let Err(report) = one_sheet(&mut Random::new(seed, index), &mut tally) {
             differences += 1;
-            println!("sheet {index} of seed {seed}, made smaller:\n{report}");
-            if differences >= ENOUGH {
-                break;
-            }
+            println!("{name}, made smaller:\n{report}");
+        }
+        let name = format!("text {index} of seed {seed}");
+        watch::from(name.clone());
+        if let Err(report) = one_text(&mut Random::new(seed ^ TEXT_SEED, index), &mut tally) {
+            differences += 1;
+            println!("{name}, made smaller:\n{report}");
         }
     }
     let complete = tally.print();
@@ -120,22 +130,75 @@ fn random_sheets(seed: u64, count: u64) -> bool {
     complete && differences == 0
 }
 
+/// What is lent, at its edges, for small sheets and texts: the reports of all differences.
+fn edges() -> Vec<String> {
+    watch::from("with too little lent".into());
+    let mut reports = Vec::new();
+    let sheets = [b"   1   1\n".to_vec(), Vec::new(), vec![b' '; SHEET + 1]];
+    for sheet in sheets {
+        let (room, export) = (THUNYAWORM_ROOM, THUNYAWORM_EXPORT);
+        for (room, export) in [
+            (room, export),
+            (room, export - 1),
+            (room - 1, export),
+            (room - 1, export - 1),
+            (0, 0),
+        ] {
+            let case = Case {
+                sheet: sheet.clone(),
+                budget: 0,
+                room,
+                export: Some(export),
+            };
+            reports.extend(compared(&case).err());
+            if !interface::need_their_places(&case) {
+                reports.push(
+                    "with fewer than five places a call does not leave all unchanged and hand back 0"
+                        .into(),
+                );
+            }
+        }
+    }
+    for text in ["p cnf 1 1\n-1 0\n", "p cnf 1 1\n0", ""] {
+        let enough = reading::of(text.as_bytes().to_vec());
+        let (starts, literals, places) = (enough.starts, enough.literals, enough.places);
+        for (starts, literals, places) in [
+            (starts, literals, places),
+            (starts - 1, literals, places),
+            (starts, literals - 1, places),
+            (starts, literals, places - 1),
+            (starts + 1, literals + 1, places + 1),
+            (0, 0, 0),
+        ] {
+            let reading = Reading {
+                text: text.as_bytes().to_vec(),
+                starts,
+                literals,
+                places,
+            };
+            reports.extend(read(&reading).err());
+        }
+    }
+    reports
+}
+
 /// One random sheet, at its budget and now and then at budgets around the decisions that it took; for an
 /// UNSAT one now and then a larger sheet. An error is a report.
 fn one_sheet(random: &mut Random, tally: &mut Tally) -> Result<(), String> {
     let case = generate::case(random);
     let same = compared(&case)?;
-    tally.count(&same);
+    tally.count(&case, &same);
     let Same::Ended { ended, .. } = &same else {
         return Ok(());
     };
     if ended.decisions > 0 && random.percent(25) {
         let most = ended.decisions as u32;
         for budget in [most - 1, most, random.below(most as usize) as u32] {
-            tally.count(&compared(&Case {
+            let case = Case {
                 budget,
                 ..case.clone()
-            })?);
+            };
+            tally.count(&case, &compared(&case)?);
         }
     }
     if ended.verdict == Verdict::Unsat && random.percent(40) {
@@ -153,6 +216,18 @@ fn one_sheet(random: &mut Random, tally: &mut Tally) -> Result<(), String> {
         }
     }
     Ok(())
+}
+
+/// Now and then a random text. An error is a report.
+fn one_text(random: &mut Random, tally: &mut Tally) -> Result<(), String> {
+    if random.percent(TEXTS) {
+        tally.count_text(&read(&texts::reading(random))?);
+    }
+    Ok(())
+}
+
+fn read(reading: &Reading) -> Result<reading::Same, String> {
+    reading::check(reading).map_err(|_| reading::report(reading))
 }
 
 fn compared(case: &Case) -> Result<Same, String> {

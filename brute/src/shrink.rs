@@ -1,9 +1,11 @@
 //! A case that shows a difference is made smaller: without lines, literals, symbols, constants, bytes,
-//! and with a smaller budget, as long as it still shows one.
+//! and with a smaller budget, as long as it still shows one. So is a text, without lines and bytes.
 
-use crate::case::Case;
+use crate::case::{Case, Reading};
 use crate::check::check;
+use crate::export::EXPORT;
 use crate::reader::ROOM;
+use crate::reading;
 use crate::rows::{clause, literals, rows, rule, text, Row};
 use std::time::{Duration, Instant};
 
@@ -11,9 +13,24 @@ use std::time::{Duration, Instant};
 const PATIENCE: Duration = Duration::from_secs(20);
 
 pub fn shrink(case: &Case) -> Case {
+    smallest(case, candidates, |candidate| check(candidate).is_err())
+}
+
+pub fn shrink_text(reading: &Reading) -> Reading {
+    smallest(reading, smaller_texts, |candidate| {
+        reading::check(candidate).is_err()
+    })
+}
+
+/// Takes the first smaller one that still differs, for as long as there is one.
+fn smallest<T: Clone>(
+    first: &T,
+    candidates: impl Fn(&T) -> Vec<T>,
+    differs: impl Fn(&T) -> bool,
+) -> T {
     let began = Instant::now();
-    let mut smallest = case.clone();
-    let still_differs = |candidate: &Case| began.elapsed() < PATIENCE && check(candidate).is_err();
+    let mut smallest = first.clone();
+    let still_differs = |candidate: &T| began.elapsed() < PATIENCE && differs(candidate);
     while let Some(smaller) = candidates(&smallest).into_iter().find(still_differs) {
         smallest = smaller;
     }
@@ -28,8 +45,20 @@ fn candidates(case: &Case) -> Vec<Case> {
         sheet,
         ..case.clone()
     };
+    if case.export.is_some() {
+        all.push(Case {
+            export: None,
+            ..case.clone()
+        });
+    }
     for part in [32, 8, 4, 2, 1] {
         all.extend(without_lines(&case.sheet, part).into_iter().map(with_sheet));
+    }
+    if case.export.is_some_and(|export| export > EXPORT) {
+        all.push(Case {
+            export: Some(EXPORT),
+            ..case.clone()
+        });
     }
     if case.room > ROOM {
         all.push(Case {
@@ -54,21 +83,59 @@ fn candidates(case: &Case) -> Vec<Case> {
             );
         }
         _ => {
-            // Small parts only of sheets that are small already: each candidate is a copy.
-            let parts = [4096, 512, 64, 16, 4, 1];
-            for part in parts
-                .into_iter()
-                .filter(|part| case.sheet.len() / part < 512)
-            {
-                all.extend(without_bytes(&case.sheet, part).into_iter().map(with_sheet));
-            }
+            all.extend(without_parts(&case.sheet).into_iter().map(with_sheet));
         }
     }
     all
 }
 
-fn without_lines(sheet: &[u8], part: usize) -> Vec<Vec<u8>> {
-    let lines: Vec<&[u8]> = sheet.split_inclusive(|&byte| byte == b'\n').collect();
+/// Shorter texts, with the count of clauses that fits and without.
+fn smaller_texts(reading: &Reading) -> Vec<Reading> {
+    let text = &reading.text;
+    let mut all: Vec<Vec<u8>> = Vec::new();
+    for part in [128, 32, 8, 2, 1] {
+        let shorter = without_lines(text, part);
+        all.extend(shorter.iter().map(|shorter| counted(shorter)));
+        all.extend(shorter);
+    }
+    all.extend(without_parts(text));
+    all.retain(|shorter| shorter.len() < text.len());
+    all.into_iter()
+        .map(|text| Reading {
+            text,
+            ..reading.clone()
+        })
+        .collect()
+}
+
+/// A text with a first line that counts the lines behind it.
+fn counted(text: &[u8]) -> Vec<u8> {
+    let mut lines: Vec<Vec<u8>> = text
+        .split_inclusive(|&byte| byte == b'\n')
+        .map(<[u8]>::to_vec)
+        .collect();
+    let count = lines.len().saturating_sub(1);
+    if let Some(first) = lines.first_mut() {
+        if let Some(blank) = first.iter().rposition(|&byte| byte == b' ') {
+            first.truncate(blank + 1);
+            first.extend(format!("{count}\n").bytes());
+        }
+    }
+    lines.concat()
+}
+
+/// Without each part, the largest first; small parts only of what is small already, since each is a copy.
+fn without_parts(bytes: &[u8]) -> Vec<Vec<u8>> {
+    let parts = [4096, 512, 64, 16, 4, 1];
+    parts
+        .into_iter()
+        .filter(|part| bytes.len() / part < 512)
+        .flat_map(|part| without_bytes(bytes, part))
+        .collect()
+}
+
+fn without_lines(text: &[u8], part: usize) -> Vec<Vec<u8>> {
+    let lines: Vec<&[u8]> = text.split_inclusive(|&byte| byte == b'\n').collect();
     let mut all = Vec::new();
     for from in (0..lines.len()).step_by(part) {
         let to = (from + part).min(lines.len());
@@ -77,11 +144,11 @@ fn without_lines(sheet: &[u8], part: usize) -> Vec<Vec<u8>> {
     all
 }
 
-fn without_bytes(sheet: &[u8], part: usize) -> Vec<Vec<u8>> {
+fn without_bytes(bytes: &[u8], part: usize) -> Vec<Vec<u8>> {
     let mut all = Vec::new();
-    for from in (0..sheet.len()).step_by(part) {
-        let to = (from + part).min(sheet.len());
-        all.push([&sheet[..from], &sheet[to..]].concat());
+    for from in (0..bytes.len()).step_by(part) {
+        let to = (from + part).min(bytes.len());
+        all.push([&bytes[..from], &bytes[to..]].concat());
     }
     all
 }

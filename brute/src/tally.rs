@@ -1,7 +1,11 @@
-//! How often each answer, each refusal and each event of the search came up.
+//! How often each answer, each refusal and each event of the search came up, and what came of texts.
 
+use crate::case::Case;
 use crate::check::Same;
+use crate::export;
 use crate::larger;
+use crate::reader::Refusal;
+use crate::reading;
 use crate::search::Events;
 
 /// From so many sheets on, everything that can come up has to.
@@ -17,19 +21,26 @@ pub struct Tally {
     by_meaning: u64,
     answers: [u64; 4],
     /// By number; place 0 is not used.
-    refusals: [u64; 15],
+    refusals: [u64; 16],
     events: Events,
     larger_sheets: u64,
     larger_calls: u64,
     enumerated: u64,
+    exports: u64,
+    texts: u64,
+    /// Given clauses, refused with 21, refused with 22, lent too little.
+    read: [u64; 4],
 }
 
 impl Tally {
-    pub fn count(&mut self, same: &Same) {
+    pub fn count(&mut self, case: &Case, same: &Same) {
         self.calls += 1;
         match same {
             Same::TooLarge => self.too_large += 1,
-            Same::Refused(refusal) => self.refusals[refusal.number as usize] += 1,
+            Same::Refused(refusal) => {
+                self.refusals[refusal.number as usize] += 1;
+                self.count_export(case, Some(*refusal));
+            }
             Same::Ended {
                 ended,
                 events: new,
@@ -46,8 +57,29 @@ impl Tally {
                 sum.full_table += new.full_table;
                 sum.full_log += new.full_log;
                 sum.created_unset += new.created_unset;
+                self.count_export(case, None);
             }
         }
+    }
+
+    fn count_export(&mut self, case: &Case, first: Option<Refusal>) {
+        let Some(length) = case.export else {
+            return;
+        };
+        self.exports += 1;
+        let refusal = export::refusal(first, length);
+        self.refusals[15] += u64::from(refusal.is_some_and(|refusal| refusal.number == 15));
+    }
+
+    pub fn count_text(&mut self, same: &reading::Same) {
+        self.texts += 1;
+        let place = match same {
+            reading::Same::Clauses => 0,
+            reading::Same::Refused(21) => 1,
+            reading::Same::Refused(_) => 2,
+            reading::Same::Nothing => 3,
+        };
+        self.read[place] += 1;
     }
 
     pub fn count_larger(&mut self, outcome: &larger::Outcome) {
@@ -62,7 +94,7 @@ impl Tally {
             .zip(self.answers)
             .map(|(name, count)| (name.to_string(), count))
             .collect();
-        all.extend((1..15).map(|number| (format!("refusal {number}"), self.refusals[number])));
+        all.extend((1..16).map(|number| (format!("refusal {number}"), self.refusals[number])));
         let events = &self.events;
         for (name, count) in [
             (
@@ -82,6 +114,11 @@ impl Tally {
             ("answer decided by the meaning", self.by_meaning),
             ("larger sheet of an UNSAT one", self.larger_sheets),
             ("larger sheet with all its assignments", self.enumerated),
+            ("export", self.exports),
+            ("text read", self.read[0]),
+            ("text refused with 21", self.read[1]),
+            ("text refused with 22", self.read[2]),
+            ("text with too little lent", self.read[3]),
         ] {
             all.push((name.to_string(), count));
         }
@@ -91,8 +128,8 @@ impl Tally {
     /// The counts, one a line, and what a long run should have met and did not.
     pub fn print(&self) -> bool {
         println!(
-            "{:>9} calls on random sheets, {} on larger ones",
-            self.calls, self.larger_calls
+            "{:>9} calls on random sheets, {} on larger ones, {} on random texts",
+            self.calls, self.larger_calls, self.texts
         );
         println!(
             "{:>9} left out as too large for the second implementation",

@@ -1,5 +1,6 @@
 //! What the program `trials` has to print, from the sheets on its standard input.
 
+use crate::listing;
 use crate::stored::answer;
 
 /// A sheet stands behind a line with its length in five places, the budget in ten, the rooms' length in five.
@@ -51,12 +52,12 @@ fn printed_one(sheet: &[u8], budget: u32, room: usize) -> Vec<u8> {
             format!("refused {} {}", refusal.number, refusal.line),
             Vec::new(),
         ),
-        Ok((ended, listing)) => (
+        Ok((problem, ended)) => (
             format!(
                 "answered {}",
                 ended.values().map(|v| v.to_string()).join(" ")
             ),
-            listing,
+            listing::write(&ended, &problem),
         ),
     };
     let line = format!("{handed} part {} unlike 0 0 0 0\n", listing.len());

@@ -1,39 +1,95 @@
-//! Stored sheets with the listings that the program prints for them: the second implementation, and
-//! then the library, against each.
+//! Stored sheets with the listings that the program prints for them, some with a budget and the exported text,
+//! and stored texts with what is read from them: the second implementation, and then the library, against each.
 
 use crate::case::Case;
-use crate::check::check;
+use crate::check::{check, Same};
+use crate::export::EXPORT;
 use crate::reader::ROOM;
-use crate::stored::{printed, sheets, BUDGET};
+use crate::reading;
+use crate::stored::{budget, entries, exported, files, printed, read_answer};
 use crate::watch;
 use std::fs;
+use std::io;
 use std::path::Path;
 
-/// Tells whether all passed.
-pub fn run(folder: &Path) -> std::io::Result<bool> {
-    let (mut passed, mut failed) = (0, 0);
-    for path in sheets(folder)? {
-        watch::sheet(path.display().to_string());
-        let stored = fs::read(path.with_extension("listing"))?;
-        let case = Case {
-            sheet: fs::read(&path)?,
-            budget: BUDGET,
-            room: ROOM,
-        };
-        let ours = printed(&case.sheet);
-        let library = check(&case);
-        if ours == stored && library.is_ok() {
-            passed += 1;
-            continue;
+#[derive(Default)]
+struct Counts {
+    passed: u64,
+    failed: u64,
+}
+
+impl Counts {
+    /// Counts a file, and prints what is wrong with it.
+    fn count(&mut self, path: &Path, faults: &[String]) {
+        if faults.is_empty() {
+            self.passed += 1;
+        } else {
+            self.failed += 1;
         }
-        failed += 1;
-        if ours != stored {
-            println!("{}: the second implementation differs", path.display());
-        }
-        for difference in library.err().into_iter().flatten() {
-            println!("{}: {difference}", path.display());
+        for fault in faults {
+            println!("{}: {fault}", path.display());
         }
     }
+}
+
+/// All of a folder and of the folders in it. Tells whether all passed, and there is something.
+pub fn run(folder: &Path) -> io::Result<bool> {
+    let mut counts = Counts::default();
+    all_in(folder, &mut counts)?;
+    let Counts { passed, failed } = counts;
     println!("vectors: {passed} passed, {failed} failed");
-    Ok(failed == 0)
+    if passed + failed == 0 {
+        eprintln!("brute: no sheet and no answer in {}", folder.display());
+    }
+    Ok(failed == 0 && passed > 0)
+}
+
+fn all_in(folder: &Path, counts: &mut Counts) -> io::Result<()> {
+    for path in files(folder, "sheet")? {
+        watch::from(path.display().to_string());
+        counts.count(&path, &sheet_faults(&path)?);
+    }
+    for path in files(folder, "answer")? {
+        watch::from(path.display().to_string());
+        counts.count(&path, &text_faults(&path)?);
+    }
+    for path in entries(folder)?.iter().filter(|path| path.is_dir()) {
+        all_in(path, counts)?;
+    }
+    Ok(())
+}
+
+/// A sheet with its listing and, where there is one, its exported text.
+fn sheet_faults(path: &Path) -> io::Result<Vec<String>> {
+    let case = Case {
+        sheet: fs::read(path)?,
+        budget: budget(path)?,
+        room: ROOM,
+        export: Some(EXPORT),
+    };
+    let mut faults = Vec::new();
+    if printed(&case.sheet, case.budget) != fs::read(path.with_extension("listing"))? {
+        faults.push("the second implementation's listing differs".into());
+    }
+    let text = path.with_extension("cnf");
+    if text.exists() && exported(&case.sheet, case.budget) != fs::read(text)? {
+        faults.push("the second implementation's export differs".into());
+    }
+    match check(&case) {
+        Ok(Same::TooLarge) => faults.push("too large for the second implementation".into()),
+        Ok(_) => (),
+        Err(differences) => faults.extend(differences),
+    }
+    Ok(faults)
+}
+
+/// A text with what is read from it.
+fn text_faults(path: &Path) -> io::Result<Vec<String>> {
+    let text = fs::read(path.with_extension("cnf"))?;
+    let mut faults = Vec::new();
+    if read_answer(&text) != fs::read(path)? {
+        faults.push("the second implementation differs".into());
+    }
+    faults.extend(reading::check(&reading::of(text)).err().unwrap_or_default());
+    Ok(faults)
 }

@@ -1,7 +1,7 @@
 //! A call of the library that does not come back can't be left, but another thread can see it: that one
-//! names the sheet and ends the program.
+//! names the sheet or text and ends the program.
 
-use crate::case::Case;
+use crate::case::InWords;
 use std::sync::{Mutex, MutexGuard};
 use std::thread;
 use std::time::{Duration, Instant};
@@ -11,18 +11,18 @@ const PATIENCE: Duration = Duration::from_secs(20);
 
 struct Call {
     name: &'static str,
-    case: Case,
+    arguments: Box<dyn InWords + Send>,
     began: Instant,
 }
 
 struct Watched {
-    /// Where the sheet comes from. A call may be on one that was made from it, smaller or larger.
-    sheet: String,
+    /// Where the sheet or text comes from. A call may be on one that was made from it, smaller or larger.
+    from: String,
     call: Option<Call>,
 }
 
 static WATCHED: Mutex<Watched> = Mutex::new(Watched {
-    sheet: String::new(),
+    from: String::new(),
     call: None,
 });
 
@@ -36,33 +36,34 @@ pub fn start() {
         let watched = now();
         if let Some(call) = &watched.call {
             if call.began.elapsed() > PATIENCE {
-                report(&watched.sheet, call);
+                report(&watched.from, call);
                 std::process::exit(1);
             }
         }
     });
 }
 
-fn report(sheet: &str, call: &Call) {
+fn report(from: &str, call: &Call) {
     let seconds = PATIENCE.as_secs();
-    println!(
-        "{sheet}: the {} did not come back in {seconds} s",
-        call.name
-    );
-    print!("{}", call.case.in_words());
+    println!("{from}: the {} did not come back in {seconds} s", call.name);
+    print!("{}", call.arguments.in_words());
     println!("brute: ended, since the library hangs");
 }
 
-/// Names the sheet of the calls to come.
-pub fn sheet(name: String) {
-    now().sheet = name;
+/// Names the sheet or text of the calls to come.
+pub fn from(name: String) {
+    now().from = name;
 }
 
 /// Makes a call under watch.
-pub fn watched<T>(name: &'static str, case: &Case, call: impl FnOnce() -> T) -> T {
+pub fn watched<T>(
+    name: &'static str,
+    arguments: &(impl InWords + Clone + Send + 'static),
+    call: impl FnOnce() -> T,
+) -> T {
     now().call = Some(Call {
         name,
-        case: case.clone(),
+        arguments: Box::new(arguments.clone()),
         began: Instant::now(),
     });
     let result = call();
