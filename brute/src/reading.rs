@@ -2,7 +2,9 @@
 
 use crate::case::{InWords, Reading};
 use crate::dimacs::{self, Cnf};
-use crate::interface::{self, Lent, THUNYAWORM_CNF_LITERALS, THUNYAWORM_CNF_PLACES, THUNYAWORM_CNF_STARTS};
+use crate::interface::{
+    self, Lent, THUNYAWORM_CNF_LITERALS, THUNYAWORM_CNF_PLACES, THUNYAWORM_CNF_STARTS,
+};
 use crate::shrink;
 
 /// What the reader has to be lent.

@@ -13,8 +13,8 @@ use Rattle.definitions.specs.Dimacs.{Front, front, expect, expects, decimalAt, 
 use Rattle.theory.specs.AskedLaws.{by-asked}
 use Rattle.cnf_reader.specs.Parts.{placeOf, decimalOf, numberAt}
 use Rattle.cnf_reader.specs.CnfArrays.{numberWord}
-use Rattle.cnf_reader.specs.Lines.{literalOf, LineRead}
-use Rattle.cnf_reader.specs.declared.parts.Place.the-variants.{At, Nowhere}
+use Rattle.cnf_reader.specs.Lines.{literalFound, CnfLineRead}
+use Rattle.cnf_reader.specs.declared.parts.Behind.the-variants.{At, Nowhere}
 use Rattle.cnf_reader.specs.declared.parts.DecimalAt.the-variants.{Decimal, NoDecimal}
 use Rattle.cnf_reader.specs.declared.lines.LiteralAt.the-variants.{Literal, NoLiteral}
 use Rattle.cnf_reader.specs.declared.lines.LineAt.{LineAt}
@@ -53,26 +53,26 @@ module _ (text : List ℕ) (at : ℕ) where
         (λ q g. rw g)
         (λ behind g. rw g))))))
 
-    pub literal-none : decimalOf 22 text NoDecimal ≡ numberAt 22 1 atoms 32 (drop first text) → literalOf text NoLiteral ≡ literalAt atoms (drop at text)
-    unfolding literalOf decimalOf _>>=_
+    pub literal-none : decimalOf 22 text NoDecimal ≡ numberAt 22 1 atoms 32 (drop first text) → literalFound text NoLiteral ≡ literalAt atoms (drop at text)
+    unfolding literalFound decimalOf _>>=_
     literal-none e = sym (literal-number ∙ rw (← e))
 
-    pub literal-read : (size next : ℕ) → decimalOf 22 text (Decimal size next) ≡ numberAt 22 1 atoms 32 (drop first text)
-        → literalOf text (Literal negative size next) ≡ literalAt atoms (drop at text)
-    unfolding literalOf decimalOf _>>=_
-    literal-read size next e = sym (literal-number ∙ rw (← e))
+    pub literal-turn : (size next : ℕ) → decimalOf 22 text (Decimal size next) ≡ numberAt 22 1 atoms 32 (drop first text)
+        → literalFound text (Literal negative size next) ≡ literalAt atoms (drop at text)
+    unfolding literalFound decimalOf _>>=_
+    literal-turn size next e = sym (literal-number ∙ rw (← e))
 
 -- ── the end of a line ──
 
 module _ (text : List ℕ) (at end : ℕ) (words : List ℕ) where
   pub close-read : (next : ℕ) → placeOf 22 text (At next) ≡ expects 22 (48 ∷ 10 ∷ []) (drop at text)
-      → LineRead text (closeAt (drop at text)) end words (Line end next) words
+      → CnfLineRead text (closeAt (drop at text)) end words (Line end next) words
   unfolding placeOf closeAt _>>=_
   close-read next e =
       let none : end + 0 ≡ end = omega arith in
       rw (← e) (record { next = next; answer = rw none; behind = refl; stored = refl })
 
-  pub close-none : placeOf 22 text Nowhere ≡ expects 22 (48 ∷ 10 ∷ []) (drop at text) → LineRead text (closeAt (drop at text)) end words NoLine words
+  pub close-none : placeOf 22 text Nowhere ≡ expects 22 (48 ∷ 10 ∷ []) (drop at text) → CnfLineRead text (closeAt (drop at text)) end words NoLine words
   unfolding placeOf closeAt _>>=_
   close-none e = rw (← e) (refl, refl)
 
@@ -80,7 +80,7 @@ module _ (text : List ℕ) (at end : ℕ) (words : List ℕ) where
 
 module _ (text : List ℕ) (atoms left at end : ℕ) (words : List ℕ) where
   -- no literal may follow
-  pub line-full : (r : LineAt) → left ≡ 0 → LineRead text (closeAt (drop at text)) end words r words → LineRead text (clauseLineAt atoms left (drop at text)) end words r words
+  pub line-full : (r : LineAt) → left ≡ 0 → CnfLineRead text (closeAt (drop at text)) end words r words → CnfLineRead text (clauseLineAt atoms left (drop at text)) end words r words
   unfolding clauseLineAt
   line-full r e h = rw e h
 
@@ -91,7 +91,7 @@ module _ (text : List ℕ) (atoms left at end : ℕ) (words : List ℕ) where
 
     -- the closing 0
     pub line-close : (r : LineAt) → true ≡ startsWith 48 (drop at text)
-        → LineRead text (closeAt (drop at text)) end words r words → LineRead text (clauseLineAt atoms left (drop at text)) end words r words
+        → CnfLineRead text (closeAt (drop at text)) end words r words → CnfLineRead text (clauseLineAt atoms left (drop at text)) end words r words
     line-close r s h = rw (zero-next s) h
 
     module _ (s : false ≡ startsWith 48 (drop at text)) where
@@ -100,18 +100,18 @@ module _ (text : List ℕ) (atoms left at end : ℕ) (words : List ℕ) where
       unfolding clauseLineAt
       on-literal = rw more (cc)
 
-      pub line-none : (after : List ℕ) → literalOf text NoLiteral ≡ literalAt atoms (drop at text)
-          → LineRead text (clauseLineAt atoms left (drop at text)) end words NoLine after
-      unfolding literalOf _>>=_
+      pub line-none : (after : List ℕ) → literalFound text NoLiteral ≡ literalAt atoms (drop at text)
+          → CnfLineRead text (clauseLineAt atoms left (drop at text)) end words NoLine after
+      unfolding literalFound _>>=_
       line-none after e = rw (on-literal, ← e) (refl, refl)
 
-      module _ (negative : Bool) (size next : ℕ) (read : literalOf text (Literal negative size next) ≡ literalAt atoms (drop at text)) where
+      module _ (negative : Bool) (size next : ℕ) (read : literalFound text (Literal negative size next) ≡ literalAt atoms (drop at text)) where
         abbrev n : Number
         n = record { negative = negative; size = size }
 
         rest-read : (rest : Asked (Front (List Number))) (r : LineAt) (after : List ℕ)
-            → LineRead text rest (end + 1) (set words end (numberWord n)) r after
-            → LineRead text (rest >>= λ ns. yes (front (n ∷ ns .found) (ns .behind))) end words r after
+            → CnfLineRead text rest (end + 1) (set words end (numberWord n)) r after
+            → CnfLineRead text (rest >>= λ ns. yes (front (n ∷ ns .found) (ns .behind))) end words r after
         unfolding _>>=_
         rest-read (no q) r after h = h
         rest-read (yes ns) r after h =
@@ -120,7 +120,7 @@ module _ (text : List ℕ) (atoms left at end : ℕ) (words : List ℕ) where
             record { next = h .next; answer = rw count at (h .answer); behind = h .behind; stored = rw place at (h .stored) }
 
         pub line-turn : (r : LineAt) (after : List ℕ)
-            → LineRead text (clauseLineAt atoms place (drop next text)) (end + 1) (set words end (numberWord n)) r after
-            → LineRead text (clauseLineAt atoms left (drop at text)) end words r after
-        unfolding literalOf _>>=_
+            → CnfLineRead text (clauseLineAt atoms place (drop next text)) (end + 1) (set words end (numberWord n)) r after
+            → CnfLineRead text (clauseLineAt atoms left (drop at text)) end words r after
+        unfolding literalFound _>>=_
         line-turn r after h = rw (on-literal, ← read) (rest-read (clauseLineAt atoms place (drop next text)) r after h)

@@ -17,7 +17,7 @@ use Rattle.theory.specs.AskedLaws.{by-asked}
 use Rattle.column.specs.Sets.{sets-append}
 use Rattle.encoding.specs.Encoding.{startsFrom}
 use Rattle.cnf_reader.specs.CnfArrays.{numberWord}
-use Rattle.cnf_reader.specs.Lines.{LineHeld, LineRead, ClausesRead}
+use Rattle.cnf_reader.specs.Lines.{CnfLineHeld, CnfLineRead, ClausesRead}
 use Rattle.cnf_reader.specs.declared.lines.LineAt.the-variants.{Line, NoLine}
 use Rattle.cnf_reader.proofs.Places.{behind-end, byte-here}
 
@@ -38,7 +38,7 @@ module _ (text : List ℕ) (atoms left at i used : ℕ) (starts literals : List 
     unfolding clausesAt
     on-line = rw more
 
-    pub clauses-none : (words : List ℕ) → LineRead text line used literals NoLine words
+    pub clauses-none : (words : List ℕ) → CnfLineRead text line used literals NoLine words
         → (starts′ literals′ : List ℕ) → ClausesRead (clausesAt atoms left (drop at text)) i used starts literals false starts′ literals′
     unfolding _>>=_
     clauses-none words h starts′ literals′ =
@@ -46,7 +46,7 @@ module _ (text : List ℕ) (atoms left at i used : ℕ) (starts literals : List 
         (λ q e. rw (on-line, e) ((rw e at h) .0, refl))
         (λ f e. let held = rw e at h in let wrong = held .answer in apart (cc))
 
-    rest-read : (f : Front (List Number)) (end next : ℕ) (words : List ℕ) → LineHeld text f used literals (Line end next) words
+    rest-read : (f : Front (List Number)) (end next : ℕ) (words : List ℕ) → CnfLineHeld text f used literals (Line end next) words
         → (rest : Asked (List (List Number))) (r : Bool) (starts′ literals′ : List ℕ)
         → ClausesRead rest (i + 1) end (set starts i used) words r starts′ literals′
         → ClausesRead (rest >>= λ cs. yes (f .found ∷ cs)) i used starts literals r starts′ literals′
@@ -63,7 +63,7 @@ module _ (text : List ℕ) (atoms left at i used : ℕ) (starts literals : List 
           words = g .words ∙ rw (h .stored, behind) (sets-append literals used (map numberWord (f .found)) (joined (map numberWord) cs));
         }
 
-    pub clauses-turn : (end next : ℕ) (words : List ℕ) → LineRead text line used literals (Line end next) words
+    pub clauses-turn : (end next : ℕ) (words : List ℕ) → CnfLineRead text line used literals (Line end next) words
         → (r : Bool) (starts′ literals′ : List ℕ)
         → ClausesRead (clausesAt atoms place (drop next text)) (i + 1) end (set starts i used) words r starts′ literals′
         → ClausesRead (clausesAt atoms left (drop at text)) i used starts literals r starts′ literals′
@@ -72,7 +72,7 @@ module _ (text : List ℕ) (atoms left at i used : ℕ) (starts literals : List 
         by-asked line
         (λ q e. let wrong = (rw e at h) .1 in apart (cc))
         (λ f e.
-        let held : LineHeld text f used literals (Line end next) words = rw e at h in
+        let held : CnfLineHeld text f used literals (Line end next) words = rw e at h in
         let answer = held .answer in
         let same : held .next ≡ next = cc in
         let behind : f .behind ≡ drop next text = rw same at (held .behind) in

@@ -14,7 +14,7 @@ use Rattle.definitions.specs.Dimacs.{Front, front, expect, expects, decimalAt, 
 use Rattle.theory.specs.Tests.{and-intro}
 use Rattle.theory.specs.AskedLaws.{by-asked}
 use Rattle.cnf_reader.specs.Parts.{placeOf, decimalOf, numberAt, headerOf}
-use Rattle.cnf_reader.specs.declared.parts.Place.the-variants.{At, Nowhere}
+use Rattle.cnf_reader.specs.declared.parts.Behind.the-variants.{At, Nowhere}
 use Rattle.cnf_reader.specs.declared.parts.DecimalAt.the-variants.{Decimal, NoDecimal}
 use Rattle.cnf_reader.specs.declared.parts.HeaderAt.the-variants.{Named, NoHeader}
 
@@ -29,13 +29,13 @@ module _ (text bs : List ℕ) (q least most end : ℕ) where
     unfolding decimalOf numberAt _>>=_
     asked t e = rw (← read, e)
 
-    pub number-below : size < least → decimalOf q text NoDecimal ≡ numberAt q least most end bs
+    pub number-too-small : size < least → decimalOf q text NoDecimal ≡ numberAt q least most end bs
     unfolding decimalOf ask _>>_
-    number-below h = sym (asked false (rw (lt-leb least size h)))
+    number-too-small h = sym (asked false (rw (lt-leb least size h)))
 
-    pub number-above : least ≤ size → most < size → decimalOf q text NoDecimal ≡ numberAt q least most end bs
+    pub number-too-large : least ≤ size → most < size → decimalOf q text NoDecimal ≡ numberAt q least most end bs
     unfolding decimalOf ask _>>_
-    number-above l h = sym (asked false (rw (le-leb least size l, lt-leb size most h)))
+    number-too-large l h = sym (asked false (rw (le-leb least size l, lt-leb size most h)))
 
     module _ (low : least ≤ size) (high : size ≤ most) where
       between : (leb least size && leb size most) ≡ true

@@ -13,7 +13,7 @@ use Rattle.definitions.specs.Sheet.{isDigit}
 use Rattle.definitions.specs.Dimacs.{front, expect, expects, moreDigits, decimalAt, startsWith}
 use Rattle.theory.specs.Tests.{by-test}
 use Rattle.cnf_reader.specs.Parts.{placeOf, decimalOf}
-use Rattle.cnf_reader.specs.declared.parts.Place.the-variants.{At, Nowhere}
+use Rattle.cnf_reader.specs.declared.parts.Behind.the-variants.{At, Nowhere}
 use Rattle.cnf_reader.specs.declared.parts.DecimalAt.the-variants.{Decimal, NoDecimal}
 
 module _ (text : List ℕ) (at : ℕ) where
@@ -100,10 +100,10 @@ module _ (text : List ℕ) (at size : ℕ) where
   pub no-digit-high : at < length text → 57 < getD text at 0 → front size (drop at text) ≡ moreDigits 1 size (drop at text)
   no-digit-high h l = no-digit h (digit-high (getD text at 0) l)
 
-  pub one-digit : at < length text → 48 ≤ getD text at 0 → getD text at 0 ≤ 57
+  pub digit-more : at < length text → 48 ≤ getD text at 0 → getD text at 0 ≤ 57
       → front (size * 10 + (getD text at 0 - 48)) (drop (at + 1) text) ≡ moreDigits 1 size (drop at text)
   unfolding moreDigits
-  one-digit h low high = rw (byte-here text at h) (cc (digit-among (getD text at 0) low high))
+  digit-more h low high = rw (byte-here text at h) (cc (digit-among (getD text at 0) low high))
 
 -- a digit, and again one: where none stands the first time, none stands the second time
 two-digits : (n : ℕ) (bs : List ℕ) → moreDigits 2 n bs ≡ moreDigits 1 (moreDigits 1 n bs .found) (moreDigits 1 n bs .behind)

@@ -16,9 +16,9 @@ use Rattle.cnf_reader.specs.declared.lines.LiteralAt.the-variants.{Liter
 use Rattle.cnf_reader.specs.declared.lines.LineAt.{LineAt}
 use Rattle.cnf_reader.specs.declared.lines.LineAt.the-variants.{Line, NoLine}
 
-unfoldable pub literalOf : List ℕ → LiteralAt → Asked (Front Number)
-literalOf text (Literal negative size next) = yes (front (record { negative = negative; size = size }) (drop next text))
-literalOf text NoLiteral = no 22
+unfoldable pub literalFound : List ℕ → LiteralAt → Asked (Front Number)
+literalFound text (Literal negative size next) = yes (front (record { negative = negative; size = size }) (drop next text))
+literalFound text NoLiteral = no 22
 
 -- the size of the literal's number, 0 where there is none
 unfoldable pub literalSize : LiteralAt → ℕ
@@ -31,16 +31,16 @@ lineEnd (Line end next) = end
 lineEnd NoLine = 0
 
 -- the words of the numbers that were found stand from `used` on
-pub record LineHeld (text : List ℕ) (line : Front (List Number)) (used : ℕ) (before : List ℕ) (r : LineAt) (after : List ℕ) : Type 0 where
+pub record CnfLineHeld (text : List ℕ) (line : Front (List Number)) (used : ℕ) (before : List ℕ) (r : LineAt) (after : List ℕ) : Type 0 where
   pub next : ℕ
   pub answer : r ≡ Line (used + length (line .found)) next
   pub behind : line .behind ≡ drop next text
   pub stored : after ≡ sets before used (map numberWord (line .found))
 
 -- what a clause line comes to; the array may hold anything where it is refused
-abbrev pub LineRead : List ℕ → Asked (Front (List Number)) → ℕ → List ℕ → LineAt → List ℕ → Type 0
-LineRead text (no q) used before r after = (q ≡ 22) × (r ≡ NoLine)
-LineRead text (yes line) used before r after = LineHeld text line used before r after
+abbrev pub CnfLineRead : List ℕ → Asked (Front (List Number)) → ℕ → List ℕ → LineAt → List ℕ → Type 0
+CnfLineRead text (no q) used before r after = (q ≡ 22) × (r ≡ NoLine)
+CnfLineRead text (yes line) used before r after = CnfLineHeld text line used before r after
 
 -- the clauses stand from place `i` and from word `used` on
 pub record ClausesHeld (cs : List (List Number)) (i used : ℕ) (starts literals : List ℕ) (r : Bool) (starts′ literals′ : List ℕ) : Type 0 where

@@ -6,15 +6,15 @@ use lib.Dec.{leb}
 use lib.ListN.{drop}
 use Rattle.definitions.specs.Questions.{Asked, no, yes, _>>=_, _>>_, ask}
 use Rattle.definitions.specs.Dimacs.{Front, front, expect, decimalAt, Header}
-use Rattle.cnf_reader.specs.declared.parts.Place.{Place}
-use Rattle.cnf_reader.specs.declared.parts.Place.the-variants.{At, Nowhere}
+use Rattle.cnf_reader.specs.declared.parts.Behind.{Behind}
+use Rattle.cnf_reader.specs.declared.parts.Behind.the-variants.{At, Nowhere}
 use Rattle.cnf_reader.specs.declared.parts.DecimalAt.{DecimalAt}
 use Rattle.cnf_reader.specs.declared.parts.DecimalAt.the-variants.{Decimal, NoDecimal}
 use Rattle.cnf_reader.specs.declared.parts.HeaderAt.{HeaderAt}
 use Rattle.cnf_reader.specs.declared.parts.HeaderAt.the-variants.{Named, NoHeader}
 
 -- the bytes behind the place, or the question's number
-unfoldable pub placeOf : ℕ → List ℕ → Place → Asked (List ℕ)
+unfoldable pub placeOf : ℕ → List ℕ → Behind → Asked (List ℕ)
 placeOf q text (At next) = yes (drop next text)
 placeOf q text Nowhere = no q
 

@@ -5,12 +5,12 @@ ghost use Prim.Native.Nat.{ℕ, _+_, _≤_};
 ghost use lib.ListN.{drop};
 ghost use Rattle.definitions.specs.Dimacs.{front, minusAt, literalAt, closeAt, clauseLineAt, clausesAt};
 ghost use Rattle.encoding.specs.Signs.{wordOf};
-ghost use Rattle.cnf_reader.specs.Lines.{literalOf, literalSize, LineRead, lineEnd, ClausesRead};
+ghost use Rattle.cnf_reader.specs.Lines.{literalFound, literalSize, CnfLineRead, lineEnd, ClausesRead};
 use crate::STARTS;
 use crate::WORDS;
 use crate::parts;
+use crate::parts::Behind;
 use crate::parts::DecimalAt;
-use crate::parts::Place;
 
 // The sign of a number, and the place behind it.
 pub struct Sign {
@@ -61,7 +61,7 @@ fn sign_at(text: &[u8], at: usize) -> Sign
 
 // A literal in range, and the blank behind it.
 fn literal_at(text: &[u8], at: usize, atoms: u16) -> LiteralAt
-    ensures reads { λ r. ⌜ literalOf (now (text .entry)) r ≡ literalAt atoms (drop at (now (text .entry))) ⌝ }
+    ensures reads { λ r. ⌜ literalFound (now (text .entry)) r ≡ literalAt atoms (drop at (now (text .entry))) ⌝ }
     ensures small { λ r. ⌜ literalSize r ≤ 999 ⌝ }
 {
     let sign = sign_at(text, at);
@@ -88,12 +88,12 @@ fn word(negative: bool, size: u16) -> u16
 
 // The closing 0 and LF of a line whose words end here.
 fn close_at(text: &[u8], at: usize, end: usize) -> LineAt
-    ensures reads { λ r. ⌜ ((words : List ℕ) → LineRead (now (text .entry)) (closeAt (drop at (now (text .entry)))) end words r words) ⌝ }
+    ensures reads { λ r. ⌜ ((words : List ℕ) → CnfLineRead (now (text .entry)) (closeAt (drop at (now (text .entry)))) end words r words) ⌝ }
     ensures room { λ r. ⌜ lineEnd r ≤ end ⌝ }
 {
     match parts::skip_all(text, at, b"0\n") {
-        Place::At(next) => LineAt::Line { end, next },
-        Place::Nowhere => LineAt::NoLine,
+        Behind::At(next) => LineAt::Line { end, next },
+        Behind::Nowhere => LineAt::NoLine,
     }
 }
 
@@ -106,7 +106,7 @@ fn read_line(
     used: usize,
 ) -> LineAt
     requires { ⌜ used + 8 ≤ 4608 ⌝ }
-    ensures reads { λ r. ⌜ LineRead (now (text .entry)) (clauseLineAt atoms 8 (drop from (now (text .entry)))) used (now (literals .entry)) r (now (literals .exit)) ⌝ }
+    ensures reads { λ r. ⌜ CnfLineRead (now (text .entry)) (clauseLineAt atoms 8 (drop from (now (text .entry)))) used (now (literals .entry)) r (now (literals .exit)) ⌝ }
     ensures room { λ r. ⌜ lineEnd r ≤ used + 8 ⌝ }
 {
     let mut at = from;

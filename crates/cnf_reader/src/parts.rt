@@ -6,7 +6,7 @@ ghost use Rattle.definitions.specs.Dimacs.{front, expect, expects, moreDigits, 
 ghost use Rattle.cnf_reader.specs.Parts.{placeOf, decimalOf, decimalSize, numberAt, headerOf, headerClauses};
 
 // The place behind what was to be skipped.
-pub enum Place {
+pub enum Behind {
     At(usize),
     Nowhere,
 }
@@ -49,36 +49,36 @@ pub fn stands(text: &[u8], at: usize, b: u8) -> bool
 }
 
 // The place behind the byte, where it stands here.
-pub fn skip(text: &[u8], at: usize, b: u8) -> Place
+pub fn skip(text: &[u8], at: usize, b: u8) -> Behind
     ensures { λ r. ⌜ ((q : ℕ) → placeOf q (now (text .entry)) r ≡ expect q b (drop at (now (text .entry)))) ⌝ }
 {
     if text.len() <= at {
-        return Place::Nowhere;
+        return Behind::Nowhere;
     }
     if text[at] == b {
-        return Place::At(at + 1);
+        return Behind::At(at + 1);
     }
-    Place::Nowhere
+    Behind::Nowhere
 }
 
 // The place behind these bytes, where they stand here.
-pub fn skip_all(text: &[u8], from: usize, bytes: &[u8]) -> Place
+pub fn skip_all(text: &[u8], from: usize, bytes: &[u8]) -> Behind
     ensures { λ r. ⌜ ((q : ℕ) → placeOf q (now (text .entry)) r ≡ expects q (now (bytes .entry)) (drop from (now (text .entry)))) ⌝ }
 {
     let mut at = from;
     let mut i: usize = 0;
     while i < bytes.len() {
         match skip(text, at, bytes[i]) {
-            Place::At(next) => {
+            Behind::At(next) => {
                 at = next;
             }
-            Place::Nowhere => {
-                return Place::Nowhere;
+            Behind::Nowhere => {
+                return Behind::Nowhere;
             }
         }
         i += 1;
     }
-    Place::At(at)
+    Behind::At(at)
 }
 
 // With the digit that stands here, if one does.
@@ -146,8 +146,8 @@ pub fn number_at(text: &[u8], at: usize, least: u16, most: u16, end: u8) -> Deci
                 return DecimalAt::NoDecimal;
             }
             match skip(text, next, end) {
-                Place::At(behind) => DecimalAt::Decimal { size, next: behind },
-                Place::Nowhere => DecimalAt::NoDecimal,
+                Behind::At(behind) => DecimalAt::Decimal { size, next: behind },
+                Behind::Nowhere => DecimalAt::NoDecimal,
             }
         }
         DecimalAt::NoDecimal => DecimalAt::NoDecimal,
@@ -159,7 +159,7 @@ pub fn header_at(text: &[u8]) -> HeaderAt
     ensures reads { λ r. ⌜ headerOf (now (text .entry)) r ≡ headerAt (now (text .entry)) ⌝ }
     ensures small { λ r. ⌜ headerClauses r ≤ 576 ⌝ }
 {
-    let Place::At(first) = skip_all(text, 0, b"p cnf ") else {
+    let Behind::At(first) = skip_all(text, 0, b"p cnf ") else {
         return HeaderAt::NoHeader;
     };
     let DecimalAt::Decimal {

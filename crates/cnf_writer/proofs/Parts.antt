@@ -65,20 +65,20 @@ header-first atoms clauses = record { whole = refl }
 
 -- ── clauses ──
 
-pub literal-first : (word : ℕ) → Parts (wordText word) (signedDecimals 3 (record { negative = eqb (word % 2) 1; size = word / 2 + 1 })) (32 ∷ [])
+pub literal-text-first : (word : ℕ) → Parts (wordText word) (signedDecimals 3 (record { negative = eqb (word % 2) 1; size = word / 2 + 1 })) (32 ∷ [])
 unfolding wordText literalText
-literal-first word = record { whole = refl }
+literal-text-first word = record { whole = refl }
 
 -- the words of a clause from the i-th place on
 module _ (words : List ℕ) (end i : ℕ) where
-  pub words-first : i < end → end ≤ length words
+  pub line-words-first : i < end → end ≤ length words
       → Parts (joined wordText (take (end - i) (drop i words))) (wordText (getD words i 0)) (joined wordText (take (end - (i + 1)) (drop (i + 1) words)))
   unfolding joined
-  words-first h fits = record { whole = rw (part-cons words end i h fits) }
+  line-words-first h fits = record { whole = rw (part-cons words end i h fits) }
 
-  pub words-none : end ≤ i → joined wordText (take (end - i) (drop i words)) ≡ []
+  pub line-words-none : end ≤ i → joined wordText (take (end - i) (drop i words)) ≡ []
   unfolding joined
-  words-none h = rw (part-nil words end i h)
+  line-words-none h = rw (part-nil words end i h)
 
 pub line-first : (starts literals : List ℕ) (c : ℕ)
     → Parts (lineText starts literals c) (joined wordText (take (getD starts (c + 1) 0 - getD starts c 0) (drop (getD starts c 0) literals))) (48 ∷ 10 ∷ [])

@@ -36,5 +36,5 @@ module _ {A : Type 0} where
     pub sets-front : sets l 0 bytes ≡ bytes ++ drop (length bytes) l
     sets-front = let e : 0 + length bytes ≡ length bytes = omega arith in rw e at (sets-eq bytes l 0 (omega arith))
 
-    pub front : take (length bytes) (sets l 0 bytes) ≡ bytes
-    front = rw sets-front (take-append-seam bytes (drop (length bytes) l))
+    pub sets-taken : take (length bytes) (sets l 0 bytes) ≡ bytes
+    sets-taken = rw sets-front (take-append-seam bytes (drop (length bytes) l))

@@ -84,14 +84,15 @@ listedPart sheet budget room = listingOf (result sheet budget room)
 unfoldable pub roomAfter : List ℕ → ℕ → List ℕ → List ℕ
 roomAfter sheet budget room = written (listingOf (result sheet budget room)) room
 
--- what the program prints: the listing, or the line of a refusal
-unfoldable pub printedOf : Result → List ℕ
-printedOf (refusal q n) = refusalLine q n
-printedOf (ended v s) = listing v s
-printedOf unended = []
+-- what the program prints: the line of a refusal, or what it makes of an answer
+unfoldable pub printedOf : (Result → List ℕ) → Result → List ℕ
+printedOf made (refusal q n) = refusalLine q n
+printedOf made (ended v s) = made (ended v s)
+printedOf made unended = made unended
 
+-- document 01's program: the listing
 unfoldable pub printed : List ℕ → ℕ → List ℕ
-printed sheet budget = printedOf (answered (read sheet) budget)
+printed sheet budget = printedOf listingOf (answered (read sheet) budget)
 
 -- this paper's number and values of each case: number and line, or the answer's number and the four counts
 unfoldable pub values : Answer → List ℕ

@@ -8,9 +8,9 @@ use Rattle.definitions.specs.Bounds.{roomBytes, exportBytes}
 use Rattle.definitions.specs.Words.{Problem}
 use Rattle.definitions.specs.Questions.{Reading, refused, accepted, read}
 use Rattle.definitions.specs.Search.{State, done, search}
-use Rattle.definitions.specs.Listing.{listing, refusalLine}
+use Rattle.definitions.specs.Listing.{listing}
 use Rattle.definitions.specs.Dimacs.{cnfOf, cnfText}
-use Rattle.definitions.specs.Call.{Result, refusal, ended, unended, answered, Lending, lendings, afterLending, answerOf, listingOf, written}
+use Rattle.definitions.specs.Call.{Result, refusal, ended, unended, answered, Lending, lendings, afterLending, answerOf, listingOf, written, printedOf}
 use Rattle.definitions.specs.declared.Verdict.{Verdict}
 use Rattle.definitions.specs.declared.Answer.{Answer}
 use Rattle.definitions.specs.declared.Answer.the-variants.{Refused, Answered}
@@ -46,14 +46,9 @@ module _ (sheet : List ℕ) (budget : ℕ) (room export : List ℕ) where
   unfoldable pub exportAfter : List ℕ
   exportAfter = written exportText export
 
--- what the program prints for its word `cnf`: the text, or the line of a refusal
-unfoldable pub printedExport : Reading → Result → List ℕ
-printedExport reading (refusal q n) = refusalLine q n
-printedExport reading (ended v s) = exportOf reading (ended v s)
-printedExport reading unended = []
-
+-- what the program prints for its word `cnf`: the text
 unfoldable pub printedCnf : List ℕ → ℕ → List ℕ
-printedCnf sheet budget = printedExport (read sheet) (answered (read sheet) budget)
+printedCnf sheet budget = printedOf (exportOf (read sheet)) (answered (read sheet) budget)
 
 -- ── what an export comes to ──
 
@@ -83,5 +78,5 @@ module _ (sheet : List ℕ) (budget : ℕ) (room export : List ℕ) where
 
 -- names every definition of this module, for a theorem that computes with all of them
 unfoldable pub Export·all : Unit {0}
-unfolding exportLendings exportResult exportOf exportCall exportText roomAfterExport exportAfter printedExport printedCnf
+unfolding exportLendings exportResult exportOf exportCall exportText roomAfterExport exportAfter printedCnf
 Export·all = tt

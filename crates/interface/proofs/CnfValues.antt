@@ -33,14 +33,14 @@ module _ (starts literals places : List ℕ) where
   unfolding cnfLent
   all-lent s l p = cc (le-leb 577 (length starts) s, le-leb 4608 (length literals) l, le-leb 3 (length places) p)
 
-  pub few-starts : length starts < 577 → cnfLent starts literals places ≡ false
+  pub short-starts : length starts < 577 → cnfLent starts literals places ≡ false
   unfolding cnfLent
-  few-starts h = cc (lt-leb 577 (length starts) h)
+  short-starts h = cc (lt-leb 577 (length starts) h)
 
-  pub few-literals : 577 ≤ length starts → length literals < 4608 → cnfLent starts literals places ≡ false
+  pub short-literals : 577 ≤ length starts → length literals < 4608 → cnfLent starts literals places ≡ false
   unfolding cnfLent
-  few-literals s h = cc (le-leb 577 (length starts) s, lt-leb 4608 (length literals) h)
+  short-literals s h = cc (le-leb 577 (length starts) s, lt-leb 4608 (length literals) h)
 
-  pub few-places : 577 ≤ length starts → 4608 ≤ length literals → length places < 3 → cnfLent starts literals places ≡ false
+  pub short-places : 577 ≤ length starts → 4608 ≤ length literals → length places < 3 → cnfLent starts literals places ≡ false
   unfolding cnfLent
-  few-places s l h = cc (le-leb 577 (length starts) s, le-leb 4608 (length literals) l, lt-leb 3 (length places) h)
+  short-places s l h = cc (le-leb 577 (length starts) s, le-leb 4608 (length literals) l, lt-leb 3 (length places) h)

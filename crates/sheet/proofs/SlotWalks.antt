@@ -11,7 +11,7 @@ use Rattle.definitions.specs.Words.{Pattern}
 use Rattle.definitions.specs.Sheet.{Number}
 use Rattle.definitions.specs.Questions.{Asked, no, yes, Parsed, literals, patternOf}
 use Rattle.theory.specs.AskedLaws.{by-asked}
-use Rattle.column.specs.Sets.{front, sets-front}
+use Rattle.column.specs.Sets.{sets-front, sets-taken}
 use Rattle.encoding.specs.Signs.{numbers}
 use Rattle.sheet.specs.RowLaws.{numbers-length}
 use Rattle.literals.specs.SlotReads.{argument, SlotsRead}
@@ -66,7 +66,7 @@ module _ (before : List ℕ) {after : List ℕ} (found : List Pattern) (words : 
   pub words-front : (count : ℕ) → length found ≡ count → 4 * count ≤ length before → take (4 * count) after ≡ slotWords found
   words-front count l fits =
       let e = slotWords-length found in
-      rw (words, ← l, ← e) (front before (slotWords found) (omega arith))
+      rw (words, ← l, ← e) (sets-taken before (slotWords found) (omega arith))
 
 -- the literals in two parts
 module _ (before : List ℕ) {after : List ℕ} (xs ys : List Pattern) (words : after ≡ sets before 0 (slotWords (xs ++ ys)))

@@ -14,7 +14,7 @@ use Rattle.definitions.specs.Questions.{Asked, no, yes, _>>=_, _>>_, ask, const
 use Rattle.theory.specs.Tests.{by-test}
 use Rattle.theory.specs.ListLaws.{joined-append, joined-length}
 use Rattle.theory.specs.Limits.{LiteralLimits, Limits, arity-limit, clause-asked-limits, Begun}
-use Rattle.column.specs.Sets.{front}
+use Rattle.column.specs.Sets.{sets-taken}
 use Rattle.sheet.specs.Rows.{kindHere, kindAsked}
 use Rattle.sheet.specs.RowLaws.{kind-here}
 use Rattle.encoding.specs.Slots.{asPattern, slotWords}
@@ -42,7 +42,7 @@ Started d = (d ≡ emptyDraft) ⊎ Begun d
 module _ (before : Arrays) (empty : before .index ≡ emptyIndex) (wide : length (before .arities) ≡ 16) where
   held-arities : (p : Problem) → length (p .arities) ≤ 16 → take (length (p .arities)) (hold p before .arities) ≡ p .arities
   unfolding hold
-  held-arities p h = front (before .arities) (p .arities) (omega arith)
+  held-arities p h = sets-taken (before .arities) (p .arities) (omega arith)
 
   limits-ready : (p : Problem) → Limits p → Ready (sizesOf p) (hold p before .arities) (hold p before .index)
   unfolding sizesOf

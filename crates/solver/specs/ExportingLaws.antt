@@ -1,8 +1,8 @@
 -- From what the pipe leaves to the export's result: listing and text fit their rooms, a refusal writes nothing. Assumes nothing.
-use Prim.Native.Nat.{ℕ, _≤_, _<_, _^_}
+use Prim.Native.Nat.{ℕ, _≤_}
 use mathlib.Core.Path.{_≡_, refl, sym, ap, _∙_}
 use mathlib.Core.Option.{Option, none, some}
-use mathlib.Core.List.{List, []}
+use mathlib.Core.List.{List}
 use native.Mathlib.Omega.{arith}
 use lib.Dec.{leb}
 use lib.ListN.{length}
@@ -10,18 +10,14 @@ use lib.Seq.{sets}
 use borrow.Author.Tests.{leb-true, leb-false}
 use Rattle.definitions.specs.Bounds.{roomBytes, exportBytes}
 use Rattle.definitions.specs.Words.{Problem}
-use Rattle.definitions.specs.Questions.{Reading, refused, accepted, read}
+use Rattle.definitions.specs.Questions.{refused, accepted, read}
 use Rattle.definitions.specs.Search.{State}
-use Rattle.definitions.specs.Listing.{refusalLine}
 use Rattle.definitions.specs.Dimacs.{cnfOf, cnfText}
-use Rattle.definitions.specs.Call.{Result, refusal, ended, unended, searched, answered, lendings, firstShort, afterLending, answerOf, listingOf, written}
+use Rattle.definitions.specs.Call.{searched, answered, lendings, firstShort, afterLending, answerOf, listingOf, written}
 use Rattle.definitions.specs.Call as call
-use Rattle.definitions.specs.Export.{exportLendings, exportResult, exportOf, exportCall, exportText, roomAfterExport, exportAfter, printedExport, printedCnf}
-use Rattle.definitions.specs.declared.Refusal.{Refusal}
-use Rattle.definitions.specs.declared.Counts.{Counts}
-use Rattle.definitions.specs.declared.Answer.the-variants.{Refused, Answered}
-use Rattle.theory.specs.Tests.{by-test, apart}
-use Rattle.theory.specs.Theorems.{call-comes-to-an-end}
+use Rattle.definitions.specs.Export.{exportLendings, exportResult, exportOf, exportCall, exportText, roomAfterExport, exportAfter}
+use Rattle.definitions.specs.declared.Answer.the-variants.{Refused}
+use Rattle.theory.specs.Tests.{by-test}
 use Rattle.theory.specs.CallLaws.{short-room, enough-room}
 use Rattle.theory.specs.Exports.{export-at-most}
 use Rattle.theory.specs.ExportLaws.{short-listing, short-export, refused-text, enough-lent}
@@ -32,7 +28,6 @@ use Rattle.listing.specs.Puts.{Put}
 use Rattle.cnf_writer.specs.CnfBytes.{cnfBytes}
 use Rattle.cnf_writer.specs.CnfStands.{cnf-stands}
 use Rattle.solver.specs.Solving.{SolvedAs, ShortIs}
-use Rattle.solver.specs.PrintLaws.{refusal-length}
 use Rattle.solver.specs.Exporting.{ExportedAs}
 use Rattle.solver.specs.declared.Solved.{Solved}
 use Rattle.solver.specs.declared.Exported.{Exported}
@@ -121,55 +116,3 @@ module _ (sheet : List ℕ) (budget : ℕ) (room export : List ℕ) (r : Exporte
       × (roomLast ≡ roomAfterExport sheet budget room export) × (exportLast ≡ exportAfter sheet budget room export)
   unfolding exportCall exportText roomAfterExport exportAfter
   export-meant = (exported .answer, exported .size, exported .stored, exported .storedText)
-
--- ── what the program prints ──
-
--- an answer is printed as its text
-answered-printed : (reading : Reading) (came : Result) (c : Counts) → answerOf came ≡ Answered c → printedExport reading came ≡ exportOf reading came
-unfolding answerOf printedExport
-answered-printed reading (refusal q n) c e = apart (cc)
-answered-printed reading (ended v s) c e = refl
-answered-printed reading unended c e = apart (cc)
-
--- a refusal as a line of its own, and there is no text
-refused-printed : (reading : Reading) (came : Result) → (came ≡ unended → ⊥) → (f : Refusal) → answerOf came ≡ Refused f
-    → (printedExport reading came ≡ refusalLine (f .number) (f .line)) × (exportOf reading came ≡ [])
-unfolding answerOf printedExport
-refused-printed reading (refusal q n) ends f e = (ap (λ (x : Refusal). refusalLine (x .number) (x .line)) (refused-injective e), refused-text reading q n)
-  where
-    refused-injective : {g h : Refusal} → Refused g ≡ Refused h → g ≡ h
-    refused-injective d = cc
-refused-printed reading (ended v s) ends f e = apart (cc)
-refused-printed reading unended ends f e = absurd (ends refl)
-
-module _ (sheet : List ℕ) (budget : ℕ) (room export : List ℕ) (large : roomBytes ≤ length room) (largeExport : exportBytes ≤ length export) (r : Exported)
-    (exportLast : List ℕ) (answer : r .answer ≡ exportCall sheet budget room export) (size : r .length ≡ length (exportText sheet budget room export))
-    (stored : exportLast ≡ exportAfter sheet budget room export) where
-  came : Result
-  came = exportResult sheet budget room export
-
-  -- the text and the bytes printed into its room
-  abbrev pub PrintsCnf : ℕ → List ℕ → Type 0
-  PrintsCnf n last = (n ≡ length (printedCnf sheet budget)) × (last ≡ written (printedCnf sheet budget) export)
-
-  printed-came : printedCnf sheet budget ≡ printedExport (read sheet) (exportResult sheet budget room export)
-  unfolding printedCnf
-  printed-came = ap (printedExport (read sheet)) (sym (enough-lent sheet budget room export large largeExport))
-
-  pub print-text : (c : Counts) → r .answer ≡ Answered c → PrintsCnf (r .length) exportLast
-  unfolding exportCall exportText exportAfter
-  print-text c e =
-      let same : exportOf (read sheet) (exportResult sheet budget room export) ≡ printedCnf sheet budget =
-      sym (printed-came ∙ answered-printed (read sheet) (exportResult sheet budget room export) c (sym answer ∙ e)) in
-      (size ∙ ap length same, stored ∙ ap (λ (bytes : List ℕ). written bytes export) same)
-
-  pub print-refused : (f : Refusal) → r .answer ≡ Refused f → (n : ℕ) (last : List ℕ) → Put exportLast 0 (refusalLine (f .number) (f .line)) n last → PrintsCnf n last
-  unfolding written exportCall exportText exportAfter exportResult
-  print-refused f e n last put =
-      let bytes = refusalLine (f .number) (f .line) in
-      let ends = call-comes-to-an-end (exportLendings (length room) (length export)) sheet budget in
-      let (prints, none-written) = refused-printed (read sheet) (exportResult sheet budget room export) ends f (sym answer ∙ e) in
-      let same : bytes ≡ printedCnf sheet budget = sym (printed-came ∙ prints) in
-      let unchanged : exportLast ≡ export = stored ∙ ap (λ (x : List ℕ). written x export) none-written in
-      let front = sets-front export bytes (omega (arith, refusal-length (f .number) (f .line))) in
-      (omega (arith, put .place, ap length same), put .stored ∙ ap (λ (x : List ℕ). sets x 0 bytes) unchanged ∙ front ∙ ap (λ (x : List ℕ). written x export) same)

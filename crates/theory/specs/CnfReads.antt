@@ -15,15 +15,15 @@ use Rattle.definitions.specs.Listing.{decimals}
 use Rattle.definitions.specs.Text.{bytes}
 use Rattle.definitions.specs.Dimacs.{Cnf, headerLine, literalText, clauseText, cnfText, Front, front, expect, expects, decimalAt, Header, headerAt, literalAt, closeAt, startsWith, clauseLineAt, clausesAt, readCnf, CnfLimits}
 use Rattle.theory.specs.Tests.{by-test, apart}
-use Rattle.theory.specs.ListLaws.{Each, each-nil, each-cons}
+use Rattle.theory.specs.ListLaws.{empty-nil, Each, each-nil, each-cons}
 use Rattle.theory.specs.AskedLaws.{yes-injective, bind-yes, ask-yes}
-use Rattle.theory.specs.CnfText.{decimal-read, decimal-then, expect-read, expects-read, expects-exact, InRange, signed-text, starts-read, literal-read, literal-exact}
+use Rattle.theory.specs.CnfText.{decimal-read, decimal-then, expect-read, expects-read, expects-exact, InRange, signed-text, starts-read, literal-text-read, literal-exact}
 
 -- ── a clause line ──
 
 -- the clause has at most so many literals, all in range
-abbrev pub ClauseFits : ℕ → ℕ → List Number → Type 0
-ClauseFits atoms k ns = (length ns ≤ k) × Each (InRange atoms) ns
+abbrev pub ClauseInRange : ℕ → ℕ → List Number → Type 0
+ClauseInRange atoms k ns = (length ns ≤ k) × Each (InRange atoms) ns
 
 -- the first literal of a line, and the rest of it
 clause-text : (n : Number) (ns : List Number) (rest : List ℕ) → clauseText (n ∷ ns) ++ rest ≡ literalText n ++ (clauseText ns ++ rest)
@@ -40,38 +40,38 @@ clause-step : (atoms k : ℕ) (bs behind rest : List ℕ) (n : Number) (ns : Lis
 unfolding clauseLineAt _>>=_
 clause-step atoms k bs behind rest n ns start first others = cc
 
-pub clause-read : (atoms k : ℕ) (ns : List Number) (rest : List ℕ) → atoms < 1000 → ClauseFits atoms k ns
+pub clause-text-read : (atoms k : ℕ) (ns : List Number) (rest : List ℕ) → atoms < 1000 → ClauseInRange atoms k ns
     → clauseLineAt atoms k (clauseText ns ++ rest) ≡ yes (front ns rest)
-clause-read atoms k [] rest few h = clause-end atoms k rest
-clause-read atoms zero (n ∷ ns) rest few h = absurd (omega (arith, h .0))
-clause-read atoms (suc k) (n ∷ ns) rest few h =
+clause-text-read atoms k [] rest few h = clause-end atoms k rest
+clause-text-read atoms zero (n ∷ ns) rest few h = absurd (omega (arith, h .0))
+clause-text-read atoms (suc k) (n ∷ ns) rest few h =
     let range = h .1 n (List·Memᴰ·head refl) in
     let behind = clauseText ns ++ rest in
     let start : startsWith 48 (literalText n ++ behind) ≡ false
     = ap (startsWith 48) (signed-text n behind) ∙ starts-read n (32 ∷ behind) (range .0) (omega (arith, range .1)) in
     ap (clauseLineAt atoms (suc k)) (clause-text n ns rest)
     ∙ clause-step atoms k (literalText n ++ behind) behind rest n ns start
-    (literal-read atoms n behind few range)
-    (clause-read atoms k ns rest few (omega (arith, h .0), λ m j. h .1 m (List·Memᴰ·tail j)))
+    (literal-text-read atoms n behind few range)
+    (clause-text-read atoms k ns rest few (omega (arith, h .0), λ m j. h .1 m (List·Memᴰ·tail j)))
 
 -- ── all of them ──
 
 -- so does every clause, with at most 8 literals
-abbrev pub ClausesFit : ℕ → List (List Number) → Type 0
-ClausesFit atoms cs = Each (ClauseFits atoms mostLiterals) cs
+abbrev pub ClausesInRange : ℕ → List (List Number) → Type 0
+ClausesInRange atoms cs = Each (ClauseInRange atoms mostLiterals) cs
 
 clauses-step : (atoms k : ℕ) (bs rest : List ℕ) (c : List Number) (cs : List (List Number))
     → clauseLineAt atoms mostLiterals bs ≡ yes (front c rest) → clausesAt atoms k rest ≡ yes cs → clausesAt atoms (suc k) bs ≡ yes (c ∷ cs)
 unfolding clausesAt _>>=_
 clauses-step atoms k bs rest c cs first others = cc
 
-pub clauses-read : (atoms : ℕ) (cs : List (List Number)) → atoms < 1000 → ClausesFit atoms cs
+pub clauses-read : (atoms : ℕ) (cs : List (List Number)) → atoms < 1000 → ClausesInRange atoms cs
     → clausesAt atoms (length cs) (joined clauseText cs) ≡ yes cs
 unfolding joined
 clauses-read atoms [] few h = unfold clausesAt isEmpty _>>_ ask in refl
 clauses-read atoms (c ∷ cs) few h =
     clauses-step atoms (length cs) (clauseText c ++ joined clauseText cs) (joined clauseText cs) c cs
-    (clause-read atoms mostLiterals c (joined clauseText cs) few (h c (List·Memᴰ·head refl)))
+    (clause-text-read atoms mostLiterals c (joined clauseText cs) few (h c (List·Memᴰ·head refl)))
     (clauses-read atoms cs few (λ x m. h x (List·Memᴰ·tail m)))
 
 -- ── the header ──
@@ -123,12 +123,12 @@ close-exact bs f e =
 
 -- the bytes begin with the clause line that is found
 abbrev LineFound : ℕ → ℕ → List ℕ → Front (List Number) → Type 0
-LineFound atoms k bs f = (bs ≡ clauseText (f .found) ++ f .behind) × ClauseFits atoms k (f .found)
+LineFound atoms k bs f = (bs ≡ clauseText (f .found) ++ f .behind) × ClauseInRange atoms k (f .found)
 
 close-found : (atoms k : ℕ) (bs : List ℕ) (f : Front (List Number)) → closeAt bs ≡ yes f → LineFound atoms k bs f
 close-found atoms k bs f e =
     let (text, none) = close-exact bs f e in
-    (text, subst (ClauseFits atoms k) (sym none) (omega arith, each-nil (InRange atoms)))
+    (text, subst (ClauseInRange atoms k) (sym none) (omega arith, each-nil (InRange atoms)))
 
 -- a literal before a line
 line-more : (atoms k : ℕ) (bs : List ℕ) (n : Front Number) (ns f : Front (List Number))
@@ -148,26 +148,21 @@ clause-exact atoms (suc k) bs f e =
     let (ns, g, y) = bind-yes (clauseLineAt atoms k (n .behind)) _ f r in
     line-more atoms k bs n ns f (literal-exact atoms bs n d) (clause-exact atoms k (n .behind) ns g) y)
 
-empty-exact : {A : Type 0} (l : List A) → isEmpty l ≡ true → l ≡ []
-unfolding isEmpty
-empty-exact [] e = refl
-empty-exact (x ∷ xs) e = apart (cc)
-
 pub clauses-exact : (atoms k : ℕ) (bs : List ℕ) (cs : List (List Number)) → clausesAt atoms k bs ≡ yes cs
-    → (bs ≡ joined clauseText cs) × (length cs ≡ k) × ClausesFit atoms cs
+    → (bs ≡ joined clauseText cs) × (length cs ≡ k) × ClausesInRange atoms cs
 unfolding clausesAt joined
 clauses-exact atoms zero bs cs e =
     let (t, r) = ask-yes 22 (isEmpty bs) _ cs e in
     let none : [] ≡ cs = yes-injective r in
-    subst (λ x. (bs ≡ joined clauseText x) × (length x ≡ 0) × ClausesFit atoms x) none
-    (empty-exact bs t, refl, each-nil (ClauseFits atoms mostLiterals))
+    subst (λ x. (bs ≡ joined clauseText x) × (length x ≡ 0) × ClausesInRange atoms x) none
+    (empty-nil bs t, refl, each-nil (ClauseInRange atoms mostLiterals))
 clauses-exact atoms (suc k) bs cs e =
     let (c, d, r) = bind-yes (clauseLineAt atoms mostLiterals bs) _ cs e in
     let (rest, g, y) = bind-yes (clausesAt atoms k (c .behind)) _ cs r in
     let (first, fits) = clause-exact atoms mostLiterals bs c d in
     let (others, size, each) = clauses-exact atoms k (c .behind) rest g in
-    subst (λ x. (bs ≡ joined clauseText x) × (length x ≡ suc k) × ClausesFit atoms x) (yes-injective y)
-    (first ∙ ap (λ z. clauseText (c .found) ++ z) others, ap suc size, each-cons (ClauseFits atoms mostLiterals) fits each)
+    subst (λ x. (bs ≡ joined clauseText x) × (length x ≡ suc k) × ClausesInRange atoms x) (yes-injective y)
+    (first ∙ ap (λ z. clauseText (c .found) ++ z) others, ap suc size, each-cons (ClauseInRange atoms mostLiterals) fits each)
 
 -- the text begins with the header that is found, which keeps the limits
 abbrev pub HeaderFound : List ℕ → Front Header → Type 0

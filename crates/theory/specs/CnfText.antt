@@ -251,10 +251,10 @@ starts-read n rest l h =
     (λ e. cc)
     (λ e. let (b, bs, is, low) = begins 2 (n .size) l h in let other = ne-eqb b 48 (λ q. omega arith) in cc)
 
-pub literal-read : (atoms : ℕ) (n : Number) (rest : List ℕ) → atoms < 1000 → InRange atoms n
+pub literal-text-read : (atoms : ℕ) (n : Number) (rest : List ℕ) → atoms < 1000 → InRange atoms n
     → literalAt atoms (literalText n ++ rest) ≡ yes (front n rest)
 unfolding isDigit
-literal-read atoms n rest few (l, h) =
+literal-text-read atoms n rest few (l, h) =
     ap (literalAt atoms) (signed-text n rest)
     ∙ literal-parts atoms (signedDecimals 3 n ++ (32 ∷ rest)) (n .negative) (decimals 3 (n .size) ++ (32 ∷ rest)) (n .size) rest
     (minus-read n (32 ∷ rest) l (omega arith))

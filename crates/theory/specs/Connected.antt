@@ -10,7 +10,7 @@ use Rattle.definitions.specs.Instances.{occursIn}
 use Rattle.definitions.specs.Questions.{isShared, linked, eachLinked, connected, accepted, read}
 use Rattle.definitions.specs.Sheets.{HeadAmong, Shares, Apart}
 use Rattle.theory.specs.Tests.{by-test, apart, true-and-false, and-left, and-right, or-cases, or-right}
-use Rattle.theory.specs.ListLaws.{any-some, any-none}
+use Rattle.theory.specs.ListLaws.{empty-nil, any-some, any-none}
 use Rattle.theory.specs.Limits.{accepted-limits}
 
 module _ {r : Rule} (h : HeadAmong r) where
@@ -22,16 +22,11 @@ module _ {r : Rule} (h : HeadAmong r) where
   shared-term (variable v) m e = record { shared = v; here = m; there = e }
   shared-term (constant c) m e = apart cc
 
-  empty-none : (l : List Pattern) → isEmpty l ≡ true → l ≡ []
-  unfolding isEmpty
-  empty-none [] e = refl
-  empty-none (x ∷ l) e = apart cc
-
   linked-shares : linked others (h .head) ≡ true → Shares h
   unfolding linked
   linked-shares e =
       elim (or-cases (isEmpty others) (any (isShared others) (h .head .terms)) e) [
-        | inl n ↦ absurd (h .several (empty-none others n))
+        | inl n ↦ absurd (h .several (empty-nil others n))
         | inr s ↦ let (t, m, q) = any-some (isShared others) (h .head .terms) s in shared-term t m q
       ]
 

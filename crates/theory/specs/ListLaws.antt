@@ -7,7 +7,7 @@ use mathlib.Core.Option.{Option, none, some}
 use mathlib.Core.List.{List, [], _∷_, _++_, List·Memᴰ·head, List·Memᴰ·tail, List·Memᴰ·cases-cons, List·Memᴰ·append-cases, List·Memᴰ·not-nil, Memᴰ·append-left, Memᴰ·append-right, Memᴰ·cast, head-eq-of-cons-eq, tail-eq-of-cons-eq}
 use native.Mathlib.Omega.{arith}
 use lib.ListN.{length, length-append}
-use Rattle.definitions.specs.Lists.{_∈_, any, all, filter, find, distinct, firstSome, joined}
+use Rattle.definitions.specs.Lists.{_∈_, isEmpty, any, all, filter, find, distinct, firstSome, joined}
 use Rattle.theory.specs.Tests.{by-test, by-option, apart, none≢some}
 
 -- an element of a list that is split
@@ -28,6 +28,11 @@ in-split (List·Memᴰ·head {xs = xs} e) = record { before = []; after = xs; sp
 in-split (List·Memᴰ·tail {x = y} m) =
     let r = in-split m in
     record { before = y ∷ r .before; after = r .after; split = ap (λ l. y ∷ l) (r .split) }
+
+pub empty-nil : {A : Type 0} (l : List A) → isEmpty l ≡ true → l ≡ []
+unfolding isEmpty
+empty-nil [] e = refl
+empty-nil (x ∷ l) e = apart (cc)
 
 module _ {A : Type 0} (p : A → Bool) where
   -- the first element that passes, and that none before it does

@@ -10,7 +10,7 @@ use Rattle.definitions.specs.Words.{Atom, Literal, negate, plain, sameAtom, sam
 use Rattle.definitions.specs.Instances.{Instance, Task}
 use Rattle.definitions.specs.Search.{Why, decided, flipped, forced, Entry, Trail, isTrue, isFalse, isUnset, Logged, clauseOf, State, Act, conflict, force, notFalse, actOn, isGoal, goalAct, loggedAct, nextAct, fires, nextInstance, loggedOf, enter, enterTaken, nextGoal}
 use Rattle.theory.specs.Tests.{by-test, by-option, apart, true-and-false, and-left, and-right, or-cases}
-use Rattle.theory.specs.ListLaws.{First, find-first, find-in, find-passes, find-none, any-some, any-of, all-each, all-of, filter-of, filter-in, filter-none, firstSome-in, firstSome-none, distinct-in, distinct-of}
+use Rattle.theory.specs.ListLaws.{empty-nil, First, find-first, find-in, find-passes, find-none, any-some, any-of, all-each, all-of, filter-of, filter-in, filter-none, firstSome-in, firstSome-none, distinct-in, distinct-of}
 use Rattle.theory.specs.WordLaws.{sameAtom-eq, sameAtom-refl, sameLiteral-eq, sameLiteral-refl, eq-sameLiteral, negate-negate, same-or-negated}
 
 -- ── literals on the trail ──
@@ -268,17 +268,13 @@ module _ (k : Task) where
         heads = all-each _ (i .heads) (and-left (all (isTrue (s .trail)) (i .heads)) _ passed);
         taken = λ l q. (find-in _ (i .body) l q, not-true (isTrue (s .trail) l) (find-passes _ (i .body) l q));
         bodiless = λ q. elim (or-cases (isEmpty (i .body)) (any (λ (l : Literal). not (isTrue (s .trail) l)) (i .body)) (and-right (all (isTrue (s .trail)) (i .heads)) _ passed)) [
-          | inl h ↦ empty (i .body) h
+          | inl h ↦ empty-nil (i .body) h
           | inr h ↦ let (l, m, p) = any-some _ (i .body) h in true-and-false p (find-none _ (i .body) q l m)
         ];
       }
     where
       passed : fires (s .trail) i ≡ true
       passed = find-passes _ (k .instances) i e
-
-      empty : (ls : List Literal) → isEmpty ls ≡ true → ls ≡ []
-      empty [] h = refl
-      empty (l ∷ ls) h = apart (cc)
 
   -- an instance that does not fire though its heads are true has a body that is true
   pub rests-true : (s : State) → nextInstance k s ≡ none → (i : Instance) → i ∈ k .instances → ((h : Literal) → h ∈ i .heads → isTrue (s .trail) h ≡ true)

@@ -4,7 +4,7 @@ use mathlib.Core.List.{[], _∷_}
 use borrow.Author.Needs.{needs}
 use Rattle.listing.specs.Puts.{Putting, put-none-yet, put-room, put-last, put-first, parts-room}
 use Rattle.cnf_writer.specs.CnfBytes.{wordText}
-use Rattle.cnf_writer.proofs.Parts.{literal-first}
+use Rattle.cnf_writer.proofs.Parts.{literal-text-first}
 use Rattle.cnf_writer.proofs.put_literal.Statement.{statement}
 use Rattle.cnf_writer.proofs.put_literal.Tie as tie
 
@@ -13,7 +13,7 @@ start c = c .before .before .before
 
 blank-left : (c : tie.After-put-number)
     → Putting (start c .args .room .now) (start c .args .at) (wordText (start c .args .word)) (32 ∷ []) (c .put-number .result) (c .put-number .last .0)
-blank-left c = put-first (put-none-yet refl) (literal-first _) (c .put-number .ensures)
+blank-left c = put-first (put-none-yet refl) (literal-text-first _) (c .put-number .ensures)
 
 add-size : tie.Need-add-size
 add-size c = search needs
@@ -22,7 +22,7 @@ cast-size : tie.Need-cast-size
 cast-size c = search needs
 
 put-number-requires : tie.Need-put-number-requires
-put-number-requires c κs = parts-room (literal-first (c .before .before .args .word)) _ _ (c .before .before .pre)
+put-number-requires c κs = parts-room (literal-text-first (c .before .before .args .word)) _ _ (c .before .before .pre)
 
 put-byte-requires : tie.Need-put-byte-requires
 put-byte-requires c κs =

@@ -6,7 +6,7 @@ use lib.ListN.{take, drop}
 use Rattle.definitions.specs.Lists.{joined}
 use Rattle.listing.specs.Puts.{Putting, put-none-yet, put-length, put-first-room, put-first, put-all}
 use Rattle.cnf_writer.specs.CnfBytes.{wordText}
-use Rattle.cnf_writer.proofs.Parts.{words-first, words-none}
+use Rattle.cnf_writer.proofs.Parts.{line-words-first, line-words-none}
 use Rattle.cnf_writer.proofs.put_literals.Statement.{statement}
 use Rattle.cnf_writer.proofs.put_literals.Tie as tie
 
@@ -30,7 +30,7 @@ put-literal-requires : tie.Need-put-literal-requires Inv-loop μ-loop
 put-literal-requires c κs =
     let loop = c .before .before .before .loop in
     let start = c .before .before .before .before .before .before in
-    let parts = words-first (start .args .literals .now) (start .args .end) (loop .i) (c .before .before .loop-test .taken) (start .pre .0) in
+    let parts = line-words-first (start .args .literals .now) (start .args .end) (loop .i) (c .before .before .loop-test .taken) (start .pre .0) in
     put-first-room (loop .inv) parts (start .pre .1)
 
 add-i : tie.Need-add-i Inv-loop μ-loop
@@ -45,7 +45,7 @@ loop-again c =
     let turn = put .before .before .before in
     let loop = turn .before .loop in
     let start = turn .before .before .before .before in
-    let parts = words-first (start .args .literals .now) (start .args .end) (loop .i) (turn .loop-test .taken) (start .pre .0) in
+    let parts = line-words-first (start .args .literals .now) (start .args .end) (loop .i) (turn .loop-test .taken) (start .pre .0) in
     put-first (loop .inv) parts (put .put-literal .ensures)
 
 same-length : tie.Need-same-length Inv-loop μ-loop
@@ -55,7 +55,7 @@ returns : tie.Need-returns Inv-loop μ-loop
 returns c =
     let loop = c .before .loop in
     let a = c .before .before .before .before .args in
-    put-all (loop .inv) (words-none (a .literals .now) (a .end) (loop .i) (c .loop-test .left))
+    put-all (loop .inv) (line-words-none (a .literals .now) (a .end) (loop .i) (c .loop-test .left))
 
 pub put-literals-spec : {M : Type 1} → statement M
 put-literals-spec =

@@ -1,7 +1,8 @@
 -- `solver::print` meets its contract: an answer's listing, or the line of a refusal. Assumes nothing.
 use native.Mathlib.Omega.{arith}
 use borrow.Author.Needs.{needs}
-use Rattle.solver.specs.PrintLaws.{refusal-length, print-answer, print-refusal}
+use Rattle.definitions.specs.Call.{listingOf}
+use Rattle.solver.specs.PrintLaws.{refusal-length, print-answer, print-refusal, unlisted, printed-result, printed-alike, result-ends}
 use Rattle.solver.proofs.print.Statement.{statement}
 use Rattle.solver.proofs.print.Tie as tie
 
@@ -21,15 +22,18 @@ put-refusal-requires c κs =
 
 returns : tie.Need-returns
 returns c =
-    let a = c .before .before .before .before .before .args in
     let e = c .before .before .solve-both in
-    print-answer (a .sheet .now) (a .budget) (a .room .now) (omega arith) (e .result) _ (e .ensures) _ (c .enum-told .given .1)
+    let a = c .before .before .before .before .before .args in
+    printed-alike (a .room .now) (printed-result (a .sheet .now) (a .budget) (a .room .now) (omega arith))
+    (print-answer listingOf unlisted _ (result-ends (a .sheet .now) (a .budget) (a .room .now)) _ (omega arith) (e .ensures .answer) (e .ensures .size) (e .ensures .stored) _ (c .enum-told .given .1))
 
 returns-2 : tie.Need-returns-2
 returns-2 c =
-    let a = c .before .before .before .before .before .before .before .before .args in
-    let e = c .before .before .before .before .before .solve-both in
-    print-refusal (a .sheet .now) (a .budget) (a .room .now) (omega arith) (e .result) _ (e .ensures) _ (c .before .before .before .answer .given .1) _ _ (c .put-refusal .ensures)
+    let answered = c .before .before .before in
+    let e = answered .before .before .solve-both in
+    let a = answered .before .before .before .before .before .args in
+    printed-alike (a .room .now) (printed-result (a .sheet .now) (a .budget) (a .room .now) (omega arith))
+    (print-refusal listingOf unlisted _ (result-ends (a .sheet .now) (a .budget) (a .room .now)) _ (omega arith) (e .ensures .answer) (e .ensures .size) (e .ensures .stored) _ (answered .answer .given .1) _ _ (c .put-refusal .ensures))
 
 pub print-spec : {M : Type 1} → statement M
 print-spec =

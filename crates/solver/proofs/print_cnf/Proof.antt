@@ -1,8 +1,10 @@
 -- `solver::print_cnf` meets its contract: an answer's text, or the line of a refusal. Assumes nothing.
 use native.Mathlib.Omega.{arith}
 use borrow.Author.Needs.{needs}
-use Rattle.solver.specs.PrintLaws.{refusal-length}
-use Rattle.solver.specs.ExportingLaws.{print-text, print-refused}
+use Rattle.definitions.specs.Questions.{read}
+use Rattle.definitions.specs.Export.{exportOf, exportCall, exportText, exportAfter}
+use Rattle.theory.specs.ExportLaws.{refused-text}
+use Rattle.solver.specs.PrintLaws.{refusal-length, print-answer, print-refusal, printed-export, printed-alike, export-ends}
 use Rattle.solver.proofs.print_cnf.Statement.{statement}
 use Rattle.solver.proofs.print_cnf.Tie as tie
 
@@ -24,17 +26,23 @@ put-refusal-requires c κs =
     omega (arith, refusal-length (refusal .number) (refusal .line))
 
 returns : tie.Need-returns
+unfolding exportCall exportText exportAfter
 returns c =
     let e = c .before .before .before in
     let a = e .before .before .before .before .args in
-    print-text (a .sheet .now) (a .budget) _ (a .cnf .now) (omega arith) (omega arith) (e .export .result) _ (e .export .ensures .0) (e .export .ensures .1) (e .export .ensures .3) _ (c .enum-told .given .1)
+    let made = exportOf (read (a .sheet .now)) in
+    printed-alike (a .cnf .now) (printed-export (a .sheet .now) (a .budget) _ (a .cnf .now) (omega arith) (omega arith))
+    (print-answer made (refused-text (read (a .sheet .now))) _ (export-ends (a .sheet .now) (a .budget) _ (a .cnf .now)) _ (omega arith) (e .export .ensures .0) (e .export .ensures .1) (e .export .ensures .3) _ (c .enum-told .given .1))
 
 returns-2 : tie.Need-returns-2
+unfolding exportCall exportText exportAfter
 returns-2 c =
     let answered = c .before .before .before in
     let e = answered .before .before .before in
     let a = e .before .before .before .before .args in
-    print-refused (a .sheet .now) (a .budget) _ (a .cnf .now) (omega arith) (omega arith) (e .export .result) _ (e .export .ensures .0) (e .export .ensures .1) (e .export .ensures .3) _ (answered .answer .given .1) _ _ (c .put-refusal .ensures)
+    let made = exportOf (read (a .sheet .now)) in
+    printed-alike (a .cnf .now) (printed-export (a .sheet .now) (a .budget) _ (a .cnf .now) (omega arith) (omega arith))
+    (print-refusal made (refused-text (read (a .sheet .now))) _ (export-ends (a .sheet .now) (a .budget) _ (a .cnf .now)) _ (omega arith) (e .export .ensures .0) (e .export .ensures .1) (e .export .ensures .3) _ (answered .answer .given .1) _ _ (c .put-refusal .ensures))
 
 pub print-cnf-spec : {M : Type 1} → statement M
 print-cnf-spec =

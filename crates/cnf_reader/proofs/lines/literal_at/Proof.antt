@@ -2,7 +2,7 @@
 use native.Mathlib.Omega.{arith}
 use Rattle.cnf_reader.specs.Parts.{decimalSize}
 use Rattle.cnf_reader.specs.Lines.{literalSize}
-use Rattle.cnf_reader.proofs.ClauseLines.{literal-none, literal-read}
+use Rattle.cnf_reader.proofs.ClauseLines.{literal-none, literal-turn}
 use borrow.Author.Needs.{needs}
 use Rattle.cnf_reader.proofs.lines.literal_at.Statement.{statement}
 use Rattle.cnf_reader.proofs.lines.literal_at.Tie as tie
@@ -26,7 +26,7 @@ returns c =
     let sign = read .before .before .before .sign-at in
     let number = rw (read .size .given .1) at (read .before .before .number-at .ensures .0 22) in
     let small = rw (read .size .given .1) at (read .before .before .number-at .ensures .1 .1) in
-    (literal-read _ (c .before .before .before .before .before .before .args .at) _ _ (sign .result .next) (sign .ensures) _ _ number, small)
+    (literal-turn _ (c .before .before .before .before .before .before .args .at) _ _ (sign .result .next) (sign .ensures) _ _ number, small)
 
 returns-2 : tie.Need-returns-2
 unfolding literalSize

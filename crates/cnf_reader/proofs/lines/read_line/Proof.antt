@@ -7,7 +7,7 @@ use lib.ListN.{drop}
 use borrow.Author.Needs.{needs}
 use Rattle.definitions.specs.Dimacs.{clauseLineAt}
 use Rattle.cnf_reader.specs.CnfArrays.{numberWord}
-use Rattle.cnf_reader.specs.Lines.{LineRead, literalSize, lineEnd}
+use Rattle.cnf_reader.specs.Lines.{CnfLineRead, literalSize, lineEnd}
 use Rattle.cnf_reader.specs.declared.lines.LineAt.{LineAt}
 use Rattle.cnf_reader.specs.declared.lines.LineAt.the-variants.{NoLine}
 use Rattle.cnf_reader.proofs.ClauseLines.{line-full, line-close, line-none, line-turn}
@@ -18,8 +18,8 @@ abbrev Inv-loop : tie.InvT-loop
 Inv-loop text from atoms literals₀ used at₀ end₀ left₀ literals at end left =
     (left ≤ 8) × (end + left ≡ used + 8)
     × ((r : LineAt) (after : List ℕ)
-    → LineRead text (clauseLineAt atoms left (drop at text)) end literals r after
-    → LineRead text (clauseLineAt atoms 8 (drop from text)) used literals₀ r after)
+    → CnfLineRead text (clauseLineAt atoms left (drop at text)) end literals r after
+    → CnfLineRead text (clauseLineAt atoms 8 (drop from text)) used literals₀ r after)
 
 abbrev μ-loop : tie.MeasureT-loop
 μ-loop text from atoms literals₀ used at₀ end₀ left₀ literals at end left = left

@@ -1,7 +1,7 @@
 -- `parts::number_at` meets its contract, by the decimal, its limits and the byte behind it. Assumes nothing.
 use native.Mathlib.Omega.{arith}
 use Rattle.cnf_reader.specs.Parts.{decimalSize}
-use Rattle.cnf_reader.proofs.Numbers.{number-none, number-below, number-above, number-ended, number-unended}
+use Rattle.cnf_reader.proofs.Numbers.{number-none, number-too-small, number-too-large, number-ended, number-unended}
 use borrow.Author.Needs.{needs}
 use Rattle.cnf_reader.proofs.parts.number_at.Statement.{statement}
 use Rattle.cnf_reader.proofs.parts.number_at.Tie as tie
@@ -16,13 +16,13 @@ returns : tie.Need-returns
 unfolding decimalSize
 returns c =
     let read = c .before .before in
-    (λ q. number-below _ _ q _ _ _ _ _ (rw (read .size .given .1) at (read .before .before .decimal-at .ensures .0 q)) (c .if1 .taken), omega arith)
+    (λ q. number-too-small _ _ q _ _ _ _ _ (rw (read .size .given .1) at (read .before .before .decimal-at .ensures .0 q)) (c .if1 .taken), omega arith)
 
 returns-2 : tie.Need-returns-2
 unfolding decimalSize
 returns-2 c =
     let read = c .before .before .before in (
-      λ q. number-above _ _ q _ _ _ _ _ (rw (read .size .given .1) at (read .before .before .decimal-at .ensures .0 q)) (c .before .if1 .left) (c .if2 .taken),
+      λ q. number-too-large _ _ q _ _ _ _ _ (rw (read .size .given .1) at (read .before .before .decimal-at .ensures .0 q)) (c .before .if1 .left) (c .if2 .taken),
       omega arith,
     )
 

@@ -1,6 +1,6 @@
 -- `parts::with_digit` meets its contract: behind the end, below, above and among the digits. Assumes nothing.
 use native.Mathlib.Omega.{arith}
-use Rattle.cnf_reader.proofs.Places.{no-digit-end, no-digit-low, no-digit-high, one-digit}
+use Rattle.cnf_reader.proofs.Places.{no-digit-end, no-digit-low, no-digit-high, digit-more}
 use borrow.Author.Needs.{needs}
 use Rattle.cnf_reader.proofs.parts.with_digit.Statement.{statement}
 use Rattle.cnf_reader.proofs.parts.with_digit.Tie as tie
@@ -30,7 +30,7 @@ add-t5 : tie.Need-add-t5
 add-t5 c = search needs
 
 returns-4 : tie.Need-returns-4
-returns-4 c = (one-digit _ _ _ (c .before .before .before .if1 .left) (c .before .if2 .left) (c .if3 .left), omega arith)
+returns-4 c = (digit-more _ _ _ (c .before .before .before .if1 .left) (c .before .if2 .left) (c .if3 .left), omega arith)
 
 pub with-digit-spec : {M : Type 1} → statement M
 with-digit-spec =

@@ -5,7 +5,7 @@ use borrow.Author.Needs.{needs}
 use Rattle.definitions.specs.Dimacs.{readCnf}
 use Rattle.cnf_reader.specs.CnfArrayLaws.{array-lengths}
 use Rattle.interface.specs.Handed.{lentOr}
-use Rattle.interface.proofs.CnfValues.{all-lent, few-starts, few-literals, few-places}
+use Rattle.interface.proofs.CnfValues.{all-lent, short-starts, short-literals, short-places}
 use Rattle.interface.proofs.cnf.thunyaworm_read_cnf.Statement.{statement}
 use Rattle.interface.proofs.cnf.thunyaworm_read_cnf.Tie as tie
 
@@ -13,19 +13,19 @@ returns : tie.Need-returns
 unfolding lentOr
 returns c =
     let a = c .before .before .before .before .before .args in
-    rw (few-starts (a .starts .now) (a .literals .now) (a .places .now) (omega arith), lentOr) (refl, refl, refl, refl)
+    rw (short-starts (a .starts .now) (a .literals .now) (a .places .now) (omega arith), lentOr) (refl, refl, refl, refl)
 
 returns-2 : tie.Need-returns-2
 unfolding lentOr
 returns-2 c =
     let a = c .before .before .before .before .before .before .args in
-    rw (few-literals (a .starts .now) (a .literals .now) (a .places .now) (omega arith) (omega arith), lentOr) (refl, refl, refl, refl)
+    rw (short-literals (a .starts .now) (a .literals .now) (a .places .now) (omega arith) (omega arith), lentOr) (refl, refl, refl, refl)
 
 returns-3 : tie.Need-returns-3
 unfolding lentOr
 returns-3 c =
     let a = c .before .before .before .before .before .before .before .args in
-    rw (few-places (a .starts .now) (a .literals .now) (a .places .now) (omega arith) (omega arith) (omega arith), lentOr) (refl, refl, refl, refl)
+    rw (short-places (a .starts .now) (a .literals .now) (a .places .now) (omega arith) (omega arith) (omega arith), lentOr) (refl, refl, refl, refl)
 
 read-cnf-requires : tie.Need-read-cnf-requires
 read-cnf-requires c κs = search needs
