@@ -47,7 +47,7 @@ fn sign_at(text: &[u8], at: usize) -> Sign
             next: at,
         };
     }
-    if text[at] == 45 {
+    if text[at] == b'-' {
         return Sign {
             negative: true,
             next: at + 1,
@@ -65,7 +65,7 @@ fn literal_at(text: &[u8], at: usize, atoms: u16) -> LiteralAt
     ensures small { λ r. ⌜ literalSize r ≤ 999 ⌝ }
 {
     let sign = sign_at(text, at);
-    match parts::number_at(text, sign.next, 1, atoms, 32) {
+    match parts::number_at(text, sign.next, 1, atoms, b' ') {
         DecimalAt::Decimal { size, next } => LiteralAt::Literal {
             negative: sign.negative,
             size,
@@ -113,7 +113,7 @@ fn read_line(
     let mut end = used;
     let mut left = CLAUSE_LITERALS;
     while 0 < left {
-        if parts::stands(text, at, 48) {
+        if parts::stands(text, at, b'0') {
             return close_at(text, at, end);
         }
         match literal_at(text, at, atoms) {

@@ -90,14 +90,14 @@ fn with_digit(text: &[u8], size: u16, at: usize) -> Digits
         return Digits { size, next: at };
     }
     let b = text[at];
-    if b < 48 {
+    if b < b'0' {
         return Digits { size, next: at };
     }
-    if 57 < b {
+    if b'9' < b {
         return Digits { size, next: at };
     }
     Digits {
-        size: size * 10 + (b - 48) as u16,
+        size: size * 10 + (b - b'0') as u16,
         next: at + 1,
     }
 }
@@ -111,20 +111,20 @@ fn decimal_at(text: &[u8], at: usize) -> DecimalAt
         return DecimalAt::NoDecimal;
     }
     let b = text[at];
-    if b < 48 {
+    if b < b'0' {
         return DecimalAt::NoDecimal;
     }
-    if 57 < b {
+    if b'9' < b {
         return DecimalAt::NoDecimal;
     }
     let behind = at + 1;
-    if b == 48 {
+    if b == b'0' {
         return DecimalAt::Decimal {
             size: 0,
             next: behind,
         };
     }
-    let two = with_digit(text, (b - 48) as u16, behind);
+    let two = with_digit(text, (b - b'0') as u16, behind);
     let three = with_digit(text, two.size, two.next);
     DecimalAt::Decimal {
         size: three.size,
@@ -165,14 +165,14 @@ pub fn header_at(text: &[u8]) -> HeaderAt
     let DecimalAt::Decimal {
         size: atoms,
         next: second,
-    } = number_at(text, first, 0, ATOMS, 32)
+    } = number_at(text, first, 0, ATOMS, b' ')
     else {
         return HeaderAt::NoHeader;
     };
     let DecimalAt::Decimal {
         size: clauses,
         next,
-    } = number_at(text, second, 0, CLAUSES, 10)
+    } = number_at(text, second, 0, CLAUSES, b'\n')
     else {
         return HeaderAt::NoHeader;
     };

@@ -28,12 +28,12 @@ fn put_name(room: &mut [u8], at: usize) -> usize
     requires { ⌜ at + 6 ≤ length (now room) ⌝ }
     ensures { λ r. ⌜ Put (now (room .entry)) at (112 ∷ 32 ∷ 99 ∷ 110 ∷ 102 ∷ 32 ∷ []) r (now (room .exit)) ⌝ }
 {
-    room[at] = 112;
-    room[at + 1] = 32;
-    room[at + 2] = 99;
-    room[at + 3] = 110;
-    room[at + 4] = 102;
-    room[at + 5] = 32;
+    room[at] = b'p';
+    room[at + 1] = b' ';
+    room[at + 2] = b'c';
+    room[at + 3] = b'n';
+    room[at + 4] = b'f';
+    room[at + 5] = b' ';
     at + 6
 }
 
@@ -66,7 +66,7 @@ fn put_sign(room: &mut [u8], at: usize, negative: bool) -> usize
     ensures { λ r. ⌜ Put (now (room .entry)) at (sign negative) r (now (room .exit)) ⌝ }
 {
     if negative {
-        return put_byte(room, at, 45);
+        return put_byte(room, at, b'-');
     }
     at
 }
@@ -87,9 +87,9 @@ fn put_header(room: &mut [u8], at: usize, atoms: u64, clauses: u64) -> usize
 {
     let one = put_name(room, at);
     let two = put_size(room, one, atoms);
-    let three = put_byte(room, two, 32);
+    let three = put_byte(room, two, b' ');
     let four = put_size(room, three, clauses);
-    put_byte(room, four, 10)
+    put_byte(room, four, b'\n')
 }
 
 // A literal by its word, and a blank.
@@ -99,7 +99,7 @@ fn put_literal(room: &mut [u8], at: usize, word: u16) -> usize
 {
     let size = (word / 2 + 1) as u64;
     let behind = put_number(room, at, word % 2 == 1, size);
-    put_byte(room, behind, 32)
+    put_byte(room, behind, b' ')
 }
 
 // The literals of a clause, by its words from one place up to another.
@@ -141,8 +141,8 @@ fn put_clause(
     let from = places[c] as usize;
     let end = places[next] as usize;
     let one = put_literals(room, at, literals, from, end);
-    let two = put_byte(room, one, 48);
-    put_byte(room, two, 10)
+    let two = put_byte(room, one, b'0');
+    put_byte(room, two, b'\n')
 }
 
 // The lines of all clauses.

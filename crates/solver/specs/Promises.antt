@@ -4,7 +4,7 @@
 -- stands what these three are: demand 1, demand 2 and demand 3. The words are those of document 01, each defined in the crate
 -- `definitions`; what is taken from the theory are proofs. Assumes nothing.
 use Prim.Native.Nat.{ℕ, _≤_}
-use mathlib.Core.Path.{_≡_}
+use mathlib.Core.Path.{_≡_, ap, _∙_}
 use mathlib.Core.Logic.{_⊎_}
 use mathlib.Core.Bool.{false}
 use mathlib.Core.List.{List, _++_}
@@ -14,7 +14,7 @@ use Rattle.definitions.specs.Bounds.{roomBytes, mostAtoms, mostExported, export
 use Rattle.definitions.specs.Words.{Rule, Problem}
 use Rattle.definitions.specs.Instances.{taskOf}
 use Rattle.definitions.specs.Meaning.{Choice, Fails, Assignment, Satisfies}
-use Rattle.definitions.specs.Questions.{connected, no, yes, accepted, read}
+use Rattle.definitions.specs.Questions.{Asked, no, yes, connected, accepted, read}
 use Rattle.definitions.specs.Search.{State, done, search}
 use Rattle.definitions.specs.Verdicts.{FirstChoice, SpentWhen, FullWhen}
 use Rattle.definitions.specs.Dimacs.{Cnf, cnfOf, headerLine, cnfText, readCnf, CnfLimits}
@@ -29,8 +29,10 @@ use Rattle.theory.specs.Demand3.{never-satisfied, never-unknown}
 use Rattle.theory.specs.Connected.{connected-heads, head-apart}
 use Rattle.theory.specs.CnfReads.{cnf-round-trip, cnf-exact}
 use Rattle.theory.specs.CnfRefusals.{cnf-refusals, bad-header, good-header}
-use Rattle.theory.specs.Exports.{export-size}
+use Rattle.theory.specs.Exports.{export-limits, export-size}
 use Rattle.theory.specs.ExportLaws.{export-comes, export-as-first-call, exported-read-back}
+use Rattle.cnf_reader.specs.CnfArrays.{cnfRead, heldClauses}
+use Rattle.cnf_reader.specs.CnfArrayLaws.{cnf-held}
 
 module _ (sheet : List ℕ) (budget : ℕ) (room : List ℕ) where
   -- ── demand 1 ──
@@ -87,7 +89,7 @@ pub request-1-only : (r : Rule) → connected r ≡ false → (h : HeadAmong r) 
 request-1-only = head-apart
 
 -- 2/14. The contract of `export` says that it hands back `exportCall` with the length of `exportText`, and leaves `roomAfterExport` and
--- `exportAfter` in its rooms; that of `read_cnf`, that it hands back what `readCnf` gives. They require nothing either.
+-- `exportAfter` in its rooms; that of `read_cnf`, that it hands back `cnfRead` of what `readCnf` gives. They require nothing either.
 module _ (sheet : List ℕ) (budget : ℕ) (room export : List ℕ) where
   -- An export ends with the number of the first question that fails, 1, then 15, then the sheet's, and both rooms are unchanged; or with
   -- the record, the listing in its room, and the text at the front of the export room with the bytes behind it unchanged.
@@ -103,6 +105,10 @@ module _ (sheet : List ℕ) (budget : ℕ) (room export : List ℕ) where
       -- Whatever the answer, reading what was exported gives back the goal clauses and then the log, repeated literals too.
       pub request-2-read-back : readCnf (take (length (exportText sheet budget room export)) (exportAfter sheet budget room export)) ≡ yes (cnfOf (p .clauses) s)
       request-2-read-back = exported-read-back sheet budget room export large wide p reads v s ends
+
+      -- So do the arrays that `read_cnf` hands back.
+      pub request-2-by-value : heldClauses (cnfRead (readCnf (take (length (exportText sheet budget room export)) (exportAfter sheet budget room export)))) ≡ cnfOf (p .clauses) s .clauses
+      request-2-by-value = ap (λ (a : Asked Cnf). heldClauses (cnfRead a)) request-2-read-back ∙ cnf-held (cnfOf (p .clauses) s) (export-limits sheet p reads budget v s ends)
 
 -- The text always fits the room that question 15 asks for.
 pub request-2-size : (sheet : List ℕ) (p : Problem) → read sheet ≡ accepted p → (budget : ℕ) (v : Verdict) (s : State) → search p budget ≡ done v s
