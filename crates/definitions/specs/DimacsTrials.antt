@@ -103,6 +103,7 @@ readTrials =
     record { text = bytes "p cnf 0 0"; reads = no 21 } ∷
     record { text = text ("c a comment" ∷ "p cnf 0 0" ∷ []); reads = no 21 } ∷
     record { text = text ("p cnf 257 0" ∷ []); reads = no 21 } ∷
+    record { text = text ("p cnf 576 1" ∷ []); reads = no 21 } ∷
     record { text = text ("p cnf 1 577" ∷ []); reads = no 21 } ∷
     record { text = text ("p cnf 01 0" ∷ []); reads = no 21 } ∷
     record { text = text ("p cnf 00 0" ∷ []); reads = no 21 } ∷
@@ -115,7 +116,6 @@ readTrials =
     record { text = text ("p cnf 18446744073709551617 0" ∷ []); reads = no 21 } ∷
     -- 22: not exactly so many clause lines
     record { text = text ("p cnf 1 1" ∷ []); reads = no 22 } ∷
-    record { text = text ("p cnf 576 1" ∷ []); reads = no 21 } ∷
     record { text = text ("p cnf 1 576" ∷ []); reads = no 22 } ∷
     record { text = text ("p cnf 1 1" ∷ "1 0" ∷ "1 0" ∷ []); reads = no 22 } ∷
     record { text = text ("p cnf 1 1" ∷ "2 0" ∷ []); reads = no 22 } ∷
