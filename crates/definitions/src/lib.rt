@@ -30,3 +30,9 @@ pub enum Answer {
     Refused(Refusal),
     Answered(Counts),
 }
+
+// What an export hands back: the answer, and how many bytes at the front of its room hold the text.
+pub struct Exported {
+    pub answer: Answer,
+    pub length: usize,
+}

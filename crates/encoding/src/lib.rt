@@ -49,6 +49,9 @@ pub const RULE_SIZE: usize = 22;
 
 pub const RULE_SLOTS: usize = 20;
 
+// The slots of a line: four words for each literal of a clause; a rule has fewer.
+pub const SLOTS: usize = 4 * CLAUSE_LITERALS;
+
 // The word of constant 1 as a term; those below are the variables, and 0 for no term.
 pub const FIRST_CONSTANT: usize = 7;
 

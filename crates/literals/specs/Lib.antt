@@ -1,7 +1,5 @@
 pub mod SlotReads
-pub mod Heads
 pub mod SlotReadLaws
-pub mod HeadLaws
 pub mod Entering
 pub mod EnteringLaws
 pub mod ClauseSlotLaws

@@ -17,9 +17,9 @@ use encoding::CODES;
 use encoding::COLUMNS;
 use encoding::LITERALS;
 use encoding::RULE_WORDS;
+use encoding::SLOTS;
 use encoding::STARTS;
 use encoding::SYMBOLS;
-use literals::SLOTS;
 
 // The most bytes of a sheet.
 pub const SHEET_BYTES: usize = 16384;

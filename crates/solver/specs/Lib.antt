@@ -1,6 +1,4 @@
-pub mod Solving
-pub mod SolvingLaws
+pub mod Lent
+pub mod LentLaws
 pub mod PrintLaws
-pub mod Exporting
-pub mod ExportingLaws
 pub mod Promises

@@ -1,7 +1,7 @@
 // The questions about what is lent, in their order.
 ghost use Rattle.definitions.specs.Call.{lendings, firstShort};
 ghost use Rattle.definitions.specs.Export.{exportLendings};
-ghost use Rattle.solver.specs.Solving.{ShortIs};
+ghost use Rattle.solver.specs.Lent.{ShortIs};
 use crate::EXPORT_ROOM;
 use crate::ROOM;
 

@@ -1,15 +1,15 @@
 // The solver's calls: sheet bytes, a budget and a lent room. Nothing is required of a caller.
 // The promises about them stand in specs/Promises.antt.
 mod lent; // lent.rt: the questions about what is lent
-mod answering; // answering.rt: reading, searching and listing
-mod exporting; // exporting.rt: the same, and the clauses as DIMACS CNF
 
 ghost use mathlib.Core.Path.{_≡_};
 ghost use lib.ListN.{length};
 ghost use Rattle.definitions.specs.Call.{result, call, listedPart, roomAfter, written, printed};
 ghost use Rattle.definitions.specs.Export.{exportCall, exportText, roomAfterExport, exportAfter, printedCnf};
-ghost use Rattle.solver.specs.Solving.{SolvedAs};
+ghost use Rattle.answering.specs.Solving.{SolvedAs};
+use answering::Solved;
 use definitions::Answer;
+use definitions::Exported;
 use definitions::Refusal;
 
 // The room that a call asks for.
@@ -20,18 +20,6 @@ pub const EXPORT_ROOM: usize = 16384;
 
 // A buffer for a sheet: with one byte more than a sheet may have, a longer one shows.
 pub const SHEET_BUFFER: usize = sheet::SHEET_BYTES + 1;
-
-// The answer, and how many bytes at the room's front hold the listing.
-pub struct Solved {
-    pub answer: Answer,
-    pub length: usize,
-}
-
-// The answer of an export, and how many bytes at the front of its room hold the text.
-pub struct Exported {
-    pub answer: Answer,
-    pub length: usize,
-}
 
 // Both calls in one: the answer of the first, the length of what the second hands back, the room of either.
 fn solve_both(sheet: &[u8], budget: u32, room: &mut [u8]) -> Solved
@@ -101,7 +89,7 @@ pub fn export(sheet: &[u8], budget: u32, room: &mut [u8], cnf: &mut [u8]) -> Exp
             length: 0,
         };
     }
-    exporting::exported(sheet, budget, room, cnf)
+    answering::exporting::exported(sheet, budget, room, cnf)
 }
 
 // What the program prints of a sheet for its word `cnf`, at the front of the room: the text, or the line of a refusal. How many bytes

@@ -1,6 +1,6 @@
 -- `solver::export` meets its contract: the questions about what is lent, and then the sheet's. Assumes nothing.
 use borrow.Author.Needs.{needs}
-use Rattle.solver.specs.ExportingLaws.{lent-rooms, short-exported, enough-exported, export-meant}
+use Rattle.solver.specs.LentLaws.{lent-rooms, short-exported, enough-exported, export-meant}
 use Rattle.solver.proofs.export.Statement.{statement}
 use Rattle.solver.proofs.export.Tie as tie
 

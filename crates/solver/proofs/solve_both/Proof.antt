@@ -1,6 +1,6 @@
 -- `solver::solve_both` meets its contract: the questions about what is lent, and then the sheet's. Assumes nothing.
 use borrow.Author.Needs.{needs}
-use Rattle.solver.specs.SolvingLaws.{lent-room, short-solved, enough-solved}
+use Rattle.solver.specs.LentLaws.{lent-room, short-solved, enough-solved}
 use Rattle.solver.proofs.solve_both.Statement.{statement}
 use Rattle.solver.proofs.solve_both.Tie as tie
 

@@ -4,7 +4,7 @@ use lib.ListN.{length}
 use lib.Seq.{length-take-le}
 use borrow.Author.Needs.{needs}
 use Rattle.definitions.specs.Call.{listedPart}
-use Rattle.solver.specs.SolvingLaws.{solved-length, solved-front}
+use Rattle.solver.specs.LentLaws.{solved-length, solved-front}
 use Rattle.solver.proofs.solve_listing.Statement.{statement}
 use Rattle.solver.proofs.solve_listing.Tie as tie
 

@@ -1,0 +1,4 @@
+pub mod Solving
+pub mod SolvingLaws
+pub mod Exporting
+pub mod ExportingLaws

@@ -1,0 +1,110 @@
+// A sheet that is lent rooms large enough: read and searched, and then listed. The calls above ask about what is lent.
+pub mod exporting; // exporting.rt: the same, and the clauses as DIMACS CNF
+
+ghost use Prim.Native.Nat.{ℕ, _≤_};
+ghost use lib.ListN.{length};
+ghost use Rattle.definitions.specs.Bounds.{roomBytes};
+ghost use Rattle.definitions.specs.Words.{Problem};
+ghost use Rattle.definitions.specs.Questions.{read};
+ghost use Rattle.definitions.specs.Search.{State};
+ghost use Rattle.definitions.specs.Listing.{listing as listingOf};
+ghost use Rattle.definitions.specs.Call.{ended as endedIn, answered as answeredOf};
+ghost use Rattle.machine.specs.Finished.{Finished};
+ghost use Rattle.answering.specs.Solving.{SolvedAs};
+use definitions::Answer;
+use definitions::Counts;
+use encoding::ATOMS;
+use encoding::LITERALS;
+use encoding::LOGGED;
+use encoding::STARTS;
+use encoding::SYMBOLS;
+use machine::Ended;
+use pipe::Reached;
+
+// The answer, and how many bytes at the room's front hold the listing.
+pub struct Solved {
+    pub answer: Answer,
+    pub length: usize,
+}
+
+// The listing and the counts of a search that has ended, from its arrays.
+pub fn listed(
+    room: &mut [u8],
+    given: usize,
+    ended: Ended,
+    arities: &[u8; SYMBOLS],
+    starts: &[u16; STARTS],
+    literals: &[u16; LITERALS],
+    numbers: &[u8; LOGGED],
+    table: &[u32; ATOMS],
+    values: &[u8; ATOMS],
+) -> Solved
+    requires { ⌜ ((p : Problem) × (budget : ℕ) × (s : State) × Finished p budget s ended given (now arities) (now starts) (now literals) (now numbers) (now table) (now values)
+        × (length (listingOf (ended .verdict) s) ≤ length (now room))) ⌝ }
+    ensures { λ r. ⌜ ((p : Problem) (budget : ℕ) (s : State) → Finished p budget s ended given (now (arities .entry)) (now (starts .entry)) (now (literals .entry)) (now (numbers .entry)) (now (table .entry)) (now (values .entry))
+        → length (listingOf (ended .verdict) s) ≤ length (now (room .entry)) → SolvedAs (endedIn (ended .verdict) s) (now (room .entry)) r (now (room .exit))) ⌝ }
+{
+    let length = listing::put_listing(
+        room,
+        ended,
+        given,
+        arities,
+        starts,
+        literals,
+        numbers,
+        table,
+        values,
+    );
+    let verdict = ended.verdict;
+    let run = ended.run;
+    let counts = Counts {
+        verdict,
+        atoms: run.atoms as u16,
+        logged: (run.clauses - given) as u16,
+        decisions: run.decisions,
+        conflicts: run.conflicts,
+    };
+    Solved {
+        answer: Answer::Answered(counts),
+        length,
+    }
+}
+
+// The call with a room that is large enough.
+pub fn answered(sheet: &[u8], budget: u32, room: &mut [u8]) -> Solved
+    requires { ⌜ roomBytes ≤ length (now room) ⌝ }
+    ensures { λ r. ⌜ SolvedAs (answeredOf (read (now (sheet .entry))) budget) (now (room .entry)) r (now (room .exit)) ⌝ }
+{
+    let mut arities = [0u8; SYMBOLS];
+    let mut starts = [0u16; STARTS];
+    let mut literals = [0u16; LITERALS];
+    let mut numbers = [0u8; LOGGED];
+    let mut table = [0u32; ATOMS];
+    let mut values = [0u8; ATOMS];
+    match pipe::search_sheet(
+        sheet,
+        budget,
+        &mut arities,
+        &mut starts,
+        &mut literals,
+        &mut numbers,
+        &mut table,
+        &mut values,
+    ) {
+        Reached::Refused(refusal) => Solved {
+            answer: Answer::Refused(refusal),
+            length: 0,
+        },
+        Reached::Ended(given, ended) => listed(
+            room,
+            given,
+            ended,
+            &arities,
+            &starts,
+            &literals,
+            &numbers,
+            &table,
+            &values,
+        ),
+    }
+}

@@ -1,0 +1,106 @@
+-- The questions about what is lent, and then the sheet's: a refusal writes nothing, and where enough is lent the call's result is the
+-- sheet's. What is written lies in its room. Assumes nothing.
+use Prim.Native.Nat.{ℕ, _≤_}
+use mathlib.Core.Path.{_≡_, refl, sym, ap}
+use mathlib.Core.Option.{Option, none, some}
+use mathlib.Core.List.{List}
+use native.Mathlib.Omega.{arith}
+use lib.Dec.{leb}
+use lib.ListN.{length, take, drop, length-append}
+use lib.Seq.{take-append-seam}
+use borrow.Author.Tests.{leb-true, leb-false}
+use Rattle.definitions.specs.Bounds.{roomBytes, exportBytes}
+use Rattle.definitions.specs.Questions.{read}
+use Rattle.definitions.specs.Call.{Result, answered, lendings, firstShort, afterLending, result, answerOf, listingOf, written}
+use Rattle.definitions.specs.Export.{exportLendings, exportResult, exportOf, exportCall, exportText, roomAfterExport, exportAfter}
+use Rattle.definitions.specs.declared.Answer.the-variants.{Refused}
+use Rattle.definitions.specs.declared.Exported.{Exported}
+use Rattle.theory.specs.Tests.{by-test}
+use Rattle.theory.specs.CallLaws.{short-room, enough-room, large-room}
+use Rattle.theory.specs.ExportLaws.{short-listing, short-export, refused-text, enough-lent}
+use Rattle.answering.specs.Solving.{SolvedAs}
+use Rattle.answering.specs.Exporting.{ExportedAs}
+use Rattle.answering.specs.declared.Solved.{Solved}
+use Rattle.solver.specs.Lent.{ShortIs}
+
+-- ── one room ──
+
+-- where no question about it is answered no, the room is large enough
+pub lent-room : (room number : ℕ) → ShortIs (firstShort (lendings room)) number → number ≡ 0 → roomBytes ≤ room
+lent-room room number short none-short =
+    by-test (leb roomBytes room) (λ e. leb-true roomBytes room e) (λ e. let h = rw (short-room room (leb-false roomBytes room e)) at short in absurd (omega (arith, h .0)))
+
+module _ (sheet : List ℕ) (budget : ℕ) (room : List ℕ) where
+  -- a question about what is lent is answered no, or none is
+  pub short-solved : (number : ℕ) → ShortIs (firstShort (lendings (length room))) number → (number ≡ 0 → ⊥)
+      → SolvedAs (result sheet budget room) room (record { answer = Refused (record { number = number; line = 0 }); length = 0 }) room
+  unfolding result afterLending answerOf listingOf written
+  short-solved number short some-number = from (firstShort (lendings (length room))) refl short
+    where
+      from : (o : Option ℕ) → firstShort (lendings (length room)) ≡ o → ShortIs o number
+          → SolvedAs (result sheet budget room) room (record { answer = Refused (record { number = number; line = 0 }); length = 0 }) room
+      from none e h = absurd (some-number h)
+      from (some q) e h = rw (e, result, afterLending, h .0) (record { answer = refl; size = refl; stored = refl })
+
+  pub enough-solved : roomBytes ≤ length room → (r : Solved) (after : List ℕ) → SolvedAs (answered (read sheet) budget) room r after → SolvedAs (result sheet budget room) room r after
+  enough-solved large r after h = rw (large-room sheet budget room large) h
+
+-- what is written at the front of a room lies in it
+pub written-fits : (bytes room : List ℕ) {n : ℕ} {after : List ℕ} → n ≡ length bytes → after ≡ written bytes room → n ≤ length after
+unfolding written
+written-fits bytes room size stored = omega (arith, size, ap length stored, length-append bytes (drop (length bytes) room))
+
+-- the front of the room that is as long as the listing is the listing
+module _ (came : Result) (room : List ℕ) (r : Solved) (after : List ℕ) (solved : SolvedAs came room r after) where
+  pub solved-length : r .length ≤ length after
+  solved-length = written-fits (listingOf came) room (solved .size) (solved .stored)
+
+  pub solved-front : take (r .length) after ≡ listingOf came
+  unfolding written
+  solved-front = rw (solved .size, solved .stored) (take-append-seam (listingOf came) (drop (length (listingOf came)) room))
+
+-- ── two rooms ──
+
+-- question 1 is the first, as of the other calls
+pub asked-first : (room export number : ℕ) → ShortIs (firstShort (lendings room)) number → (number ≡ 0 → ⊥) → ShortIs (firstShort (exportLendings room export)) number
+asked-first room export number short some-number =
+    by-test (leb roomBytes room)
+    (λ e. absurd (some-number (rw (enough-room room (leb-true roomBytes room e)) at short)))
+    (λ e. rw (short-listing room export (leb-false roomBytes room e)) (rw (short-room room (leb-false roomBytes room e)) at short))
+
+-- where no question about them is answered no, both rooms are large enough
+pub lent-rooms : (room export number : ℕ) → ShortIs (firstShort (exportLendings room export)) number → number ≡ 0 → (roomBytes ≤ room) × (exportBytes ≤ export)
+lent-rooms room export number short none-short =
+    by-test (leb roomBytes room)
+    (λ e. by-test (leb exportBytes export)
+    (λ d. (leb-true roomBytes room e, leb-true exportBytes export d))
+    (λ d. let h = rw (short-export room export (leb-true roomBytes room e) (leb-false exportBytes export d)) at short in absurd (omega (arith, h .0))))
+    (λ e. let h = rw (short-listing room export (leb-false roomBytes room e)) at short in absurd (omega (arith, h .0)))
+
+module _ (sheet : List ℕ) (budget : ℕ) (room export : List ℕ) where
+  -- a question about what is lent is answered no, or none is
+  pub short-exported : (number : ℕ) → ShortIs (firstShort (exportLendings (length room) (length export))) number → (number ≡ 0 → ⊥)
+      → ExportedAs (read sheet) (exportResult sheet budget room export) room export (record { answer = Refused (record { number = number; line = 0 }); length = 0 }) room export
+  unfolding exportResult afterLending answerOf listingOf written
+  short-exported number short some-number = from (firstShort (exportLendings (length room) (length export))) refl short
+    where
+      from : (o : Option ℕ) → firstShort (exportLendings (length room) (length export)) ≡ o → ShortIs o number
+          → ExportedAs (read sheet) (exportResult sheet budget room export) room export (record { answer = Refused (record { number = number; line = 0 }); length = 0 }) room export
+      from none e h = absurd (some-number h)
+      from (some q) e h =
+          let none-written = refused-text (read sheet) q 0 in
+          rw (e, exportResult, afterLending, h .0)
+          (record { answer = refl; size = ap length (sym none-written); stored = refl; storedText = ap (λ (x : List ℕ). written x export) (sym none-written) })
+
+  pub enough-exported : roomBytes ≤ length room → exportBytes ≤ length export → (r : Exported) (roomLast exportLast : List ℕ)
+      → ExportedAs (read sheet) (answered (read sheet) budget) room export r roomLast exportLast
+      → ExportedAs (read sheet) (exportResult sheet budget room export) room export r roomLast exportLast
+  enough-exported large largeExport r roomLast exportLast h = rw (enough-lent sheet budget room export large largeExport) h
+
+-- what is handed back and left, by the names that the contract has for it
+module _ (sheet : List ℕ) (budget : ℕ) (room export : List ℕ) (r : Exported) (roomLast exportLast : List ℕ)
+    (exported : ExportedAs (read sheet) (exportResult sheet budget room export) room export r roomLast exportLast) where
+  pub export-meant : (r .answer ≡ exportCall sheet budget room export) × (r .length ≡ length (exportText sheet budget room export))
+      × (roomLast ≡ roomAfterExport sheet budget room export) × (exportLast ≡ exportAfter sheet budget room export)
+  unfolding exportCall exportText roomAfterExport exportAfter
+  export-meant = (exported .answer, exported .size, exported .stored, exported .storedText)
