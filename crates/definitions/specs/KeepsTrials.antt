@@ -78,12 +78,13 @@ pub forgotten-constant : Keeps first fewerConstants → ⊥
 unfolding first fewerConstants Text·all Lists·all Sheet·all Questions·all Sheets·all
 forgotten-constant k = let z : 2 ≤ 1 = k .constants in omega arith
 
--- one constant and one symbol more; the rule once, between two others; the clauses in another order, with a third between them
+-- one constant and one symbol more; the rule once, between two others; the clauses in another order, with a third between them; and
+-- blank columns on lines that are kept
 unfoldable pub second : List ℕ
 second =
-    text ("   1   3" ∷ "   2   0" ∷ "   2   1" ∷ "   2   0" ∷ "   2   2" ∷ [])
-    ++ text ("   3   1   0   4   1   1" ∷ "   3   1   1   2   1   1" ∷ "   3   1   1   1   2  -3" ∷ [])
-    ++ text ("   4   1  -2   1" ∷ "   4   1  -2   2" ∷ "   4   1   1" ∷ [])
+    text ("   1       3" ∷ "   2   0" ∷ "   2   1    " ∷ "       2   0" ∷ "   2   2" ∷ [])
+    ++ text ("   3   1   0   4   1   1" ∷ "   3   1   1       2   1   1" ∷ "   3   1   1   1   2  -3" ∷ [])
+    ++ text ("   4   1      -2   1" ∷ "   4   1  -2   2" ∷ "       4   1   1    " ∷ [])
 
 pub kept : Keeps first second
 unfolding first second Text·all Lists·all Sheet·all Questions·all Sheets·all

@@ -1,5 +1,5 @@
--- Document 01, "Questions asked of a call": 2 to 13, in their order, with 14 between 12 and 13 (document 02, 1/14), and what is read.
--- Assumes nothing.
+-- Document 01, "Questions asked of a call": 2 to 13, in their order, with 14 between 12 and 13 (document 02, 1/14) and blank columns
+-- passed over (3/14), and what is read. Assumes nothing.
 use Prim.Native.Nat.{ℕ, zero, suc, _-_, _%_}
 use mathlib.Core.Bool.{Bool, true, false, not, _&&_, _||_}
 use mathlib.Core.List.{List, [], _∷_, _++_}
@@ -9,7 +9,7 @@ use Rattle.definitions.specs.Lists.{isEmpty, any, all}
 use Rattle.definitions.specs.Bounds.{sheetBytes, longestLine, mostConstants, mostSymbols, mostArguments, mostVariables, mostRules, mostHeads, mostBody, mostClauses, mostLiterals, mostGoals}
 use Rattle.definitions.specs.Words.{Literal, Clause, Term, variable, constant, Pattern, Rule, Problem, goalAtoms}
 use Rattle.definitions.specs.Instances.{occursIn}
-use Rattle.definitions.specs.Sheet.{Line, lines, Number, Column, number, fault, decimal}
+use Rattle.definitions.specs.Sheet.{Line, lines, Number, Column, number, nothing, fault, decimal}
 
 -- the first question that is answered no, by its number, or what was read
 pub data Asked (A : Type 0) : Type 0 where
@@ -31,22 +31,22 @@ unfoldable pub ask : ℕ → Bool → Asked (Unit {0})
 ask q true = yes tt
 ask q false = no q
 
--- 6: every column of 4 bytes is a decimal
-unfoldable pub asNumber : Column → Asked Number
-asNumber (number n) = yes n
-asNumber fault = no 6
+-- 6: every column of 4 bytes is a decimal or blank; a blank one is passed over, so that the rest speaks of "filled columns" only
+unfoldable pub inFront : Column → Asked (List Number) → Asked (List Number)
+inFront (number n) behind = do
+  ns ← behind
+  yes (n ∷ ns)
+inFront nothing behind = behind
+inFront fault behind = no 6
 
 unfoldable pub columns : List ℕ → Asked (List Number)
 columns [] = yes []
 columns (a ∷ []) = no 6
 columns (a ∷ b ∷ []) = no 6
 columns (a ∷ b ∷ c ∷ []) = no 6
-columns (a ∷ b ∷ c ∷ d ∷ rest) = do
-  n ← asNumber (decimal (a ∷ b ∷ c ∷ d ∷ []))
-  ns ← columns rest
-  yes (n ∷ ns)
+columns (a ∷ b ∷ c ∷ d ∷ rest) = inFront (decimal (a ∷ b ∷ c ∷ d ∷ [])) (columns rest)
 
--- what was found in the first columns of a line, and the columns that are left
+-- what was found in the first filled columns of a line, and those that are left
 pub record Parsed (A : Type 0) : Type 0 where
   pub found : A
   pub left : List Number
@@ -252,11 +252,11 @@ lineOfKind k p ns =
       ]
     ]
 
--- 5: the length without LF is 4 to 136 and a multiple of 4
+-- 5: the length without LF is 4 to 136 and a multiple of 4; blank columns count
 unfoldable pub goodLength : ℕ → Bool
 goodLength n = leb 4 n && leb n longestLine && eqb (n % 4) 0
 
--- 4 to 6: the columns of a line
+-- 4 to 6: the filled columns of a line
 unfoldable pub columnsAsked : Line → Asked (List Number)
 columnsAsked l = do
   ask 4 (l .ended)
@@ -298,5 +298,5 @@ read sheet =
 
 -- names every definition of this module, for a theorem that computes with all of them
 unfoldable pub Questions·all : Unit {0}
-unfolding _>>=_ _>>_ ask asNumber columns within count kindOf ruleArgument clauseArgument arguments literal literals patternOf literalOf patterns clauseLiterals inHead restricted isShared linked eachLinked connected constantsAsked arityAsked ruleCounts ruleBehind ruleAsked clauseCount clauseBehind clauseAsked withConstants withSymbol withRule withClause constantsLine symbolLine ruleLine clauseLine lineOfKind goodLength columnsAsked readLine readLines emptyDraft read
+unfolding _>>=_ _>>_ ask inFront columns within count kindOf ruleArgument clauseArgument arguments literal literals patternOf literalOf patterns clauseLiterals inHead restricted isShared linked eachLinked connected constantsAsked arityAsked ruleCounts ruleBehind ruleAsked clauseCount clauseBehind clauseAsked withConstants withSymbol withRule withClause constantsLine symbolLine ruleLine clauseLine lineOfKind goodLength columnsAsked readLine readLines emptyDraft read
 Questions·all = tt

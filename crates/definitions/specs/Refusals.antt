@@ -96,7 +96,6 @@ sheets =
     record { sheet = text ("   1 - 1" ∷ []); question = 6; line = 1 } ∷
     record { sheet = text ("   1 --1" ∷ []); question = 6; line = 1 } ∷
     record { sheet = text ("   1  1-" ∷ []); question = 6; line = 1 } ∷
-    record { sheet = text ("   1    " ∷ []); question = 6; line = 1 } ∷
     -- bytes beside the digits, letters, TAB, CR, NUL
     record { sheet = text ("   1   /" ∷ []); question = 6; line = 1 } ∷
     record { sheet = text ("   1   :" ∷ []); question = 6; line = 1 } ∷
@@ -113,7 +112,6 @@ sheets =
     record { sheet = bytes "   1 " ++ (194 ∷ 160 ∷ 49 ∷ 10 ∷ []); question = 6; line = 1 } ∷
     -- the kind is a column too; a bad last column goes before a wrong kind
     record { sheet = text ("   x   1" ∷ []); question = 6; line = 1 } ∷
-    record { sheet = text ("    " ∷ []); question = 6; line = 1 } ∷
     record { sheet = text ("   9   1   x" ∷ []); question = 6; line = 1 } ∷
     record { sheet = text ("   1   1" ∷ "   1   x" ∷ []); question = 6; line = 2 } ∷
     -- the least and the greatest decimal are read, and are out of range
@@ -254,6 +252,37 @@ sheets =
     -- after the variables of the body, which are asked after a column left over
     record { sheet = text (withPairs ++ ("   3   2   1   2   1   2   2   2   3" ∷ [])); question = 12; line = 5 } ∷
     record { sheet = text (withPairs ++ ("   3   2   1   2   1   2   2   2   3   1" ∷ [])); question = 11; line = 5 } ∷
+    -- document 02, 3/14: a blank column is passed over wherever it stands: behind the last column, between others, before the kind
+    record { sheet = text ("   1   1    " ∷ []); question = 0; line = 0 } ∷
+    record { sheet = text ("   1       1" ∷ []); question = 0; line = 0 } ∷
+    record { sheet = text ("       1   1" ∷ []); question = 0; line = 0 } ∷
+    record { sheet = text (declared ++ ("       3   1       1   2       1    " ∷ "   4   2           1  -2       1" ∷ [])); question = 10; line = 4 } ∷
+    record { sheet = text (declared ++ ("       3   1       1   2       1   1" ∷ "   4   2           1  -2       1" ∷ [])); question = 0; line = 0 } ∷
+    -- a line of blanks has no kind; behind blanks the kind is the first filled column
+    record { sheet = text ("    " ∷ []); question = 7; line = 1 } ∷
+    record { sheet = text ("   1   1" ∷ "            " ∷ "   2   0" ∷ []); question = 7; line = 2 } ∷
+    record { sheet = text ("       2   1" ∷ []); question = 7; line = 1 } ∷
+    -- a blank column is no 0: what should stand there is missing
+    record { sheet = text ("   1    " ∷ []); question = 8; line = 1 } ∷
+    record { sheet = text ("   1   1" ∷ "   2    " ∷ []); question = 8; line = 2 } ∷
+    record { sheet = text (declared ++ ("   3   1    " ∷ [])); question = 8; line = 4 } ∷
+    record { sheet = text (declared ++ ("   4        " ∷ [])); question = 8; line = 4 } ∷
+    record { sheet = text (declared ++ ("   4   1   2    " ∷ [])); question = 10; line = 4 } ∷
+    -- blanks are not left over, a number behind them is
+    record { sheet = text (declared ++ ("   4   0        " ∷ "   4   1   1    " ∷ [])); question = 0; line = 0 } ∷
+    record { sheet = text (declared ++ ("   4   0           1" ∷ [])); question = 11; line = 4 } ∷
+    -- only columns count: four blanks that straddle two are a fault of both, or digits out of place
+    record { sheet = text ("   1  1     1   " ∷ []); question = 6; line = 1 } ∷
+    record { sheet = text ("   1 1     1" ∷ []); question = 6; line = 1 } ∷
+    record { sheet = text ("      1    1" ∷ []); question = 6; line = 1 } ∷
+    record { sheet = text ("1          1" ∷ []); question = 6; line = 1 } ∷
+    record { sheet = text ("   1   \t    " ∷ []); question = 6; line = 1 } ∷
+    -- question 5 counts them: 136 bytes may be blank, 140 may not
+    record { sheet = text ("   1   1" ∷ []) ++ bytes "   2   0" ++ replicate 128 32 ++ (10 ∷ []); question = 0; line = 0 } ∷
+    record { sheet = text ("   1   1" ∷ []) ++ bytes "   2   0" ++ replicate 132 32 ++ (10 ∷ []); question = 5; line = 2 } ∷
+    record { sheet = replicate 136 32 ++ (10 ∷ []); question = 7; line = 1 } ∷
+    record { sheet = replicate 140 32 ++ (10 ∷ []); question = 5; line = 1 } ∷
+    record { sheet = text ("   1   1" ∷ "   2   3" ∷ []) ++ longest ++ bytes "    \n"; question = 5; line = 3 } ∷
     -- 13: at most 64 goal atoms, whatever their signs
     record { sheet = text sixtyFour; question = 0; line = 0 } ∷
     record { sheet = text (sixtyFour ++ ("   4   3  -1   1   2   2  -2  32" ∷ [])); question = 0; line = 0 } ∷

@@ -1,4 +1,4 @@
--- Document 01, "The sheet": lines, and the decimal columns of a line. Assumes nothing.
+-- Document 01, "The sheet": lines, and the decimal columns of a line; document 02, 3/14: a blank column. Assumes nothing.
 use Prim.Native.Nat.{ℕ, _+_, _-_, _*_}
 use mathlib.Core.Bool.{Bool, true, false, _&&_}
 use mathlib.Core.List.{List, [], _∷_}
@@ -30,9 +30,10 @@ plus n = record { negative = false; size = n }
 unfoldable pub minus : ℕ → Number
 minus n = record { negative = true; size = n }
 
--- what a column is read as
+-- what a column is read as: 3/14 tells "a number, nothing, and a fault"
 pub data Column : Type 0 where
   number : Number → Column
+  nothing : Column
   fault : Column
 
 unfoldable pub isDigit : ℕ → Bool
@@ -57,9 +58,9 @@ signed (b ∷ bs) =
       | false ↦ elim (eqb b 48 && isEmpty bs) [ true ↦ number (plus 0) | false ↦ natural false (b ∷ bs) ]
     ]
 
--- a decimal right-justified with blanks (byte 32)
+-- a decimal right-justified with blanks (byte 32); blanks alone are nothing
 unfoldable pub decimal : List ℕ → Column
-decimal [] = fault
+decimal [] = nothing
 decimal (b ∷ bs) = elim (eqb b 32) [ true ↦ decimal bs | false ↦ signed (b ∷ bs) ]
 
 -- names every definition of this module, for a theorem that computes with all of them

@@ -1,15 +1,16 @@
--- Document 01, "Words": what is said of sheets and calls: accepted, answers, keeps; document 02, 1/14: a head among others. Assumes nothing.
+-- Document 01, "Words": what is said of sheets and calls: accepted, answers, keeps; document 02, 1/14: a head among others, 3/14: sheets
+-- that differ in blank columns. Assumes nothing.
 use Prim.Native.Nat.{ℕ, _≤_}
 use mathlib.Core.Path.{_≡_}
 use mathlib.Core.Bool.{Bool, true, false, not, _&&_}
 use mathlib.Core.List.{List, [], _∷_, _++_, map}
 use lib.Dec.{eqb}
-use lib.ListN.{take, drop}
-use Rattle.definitions.specs.Lists.{_∈_, filter, joined}
+use lib.ListN.{length, take, drop}
+use Rattle.definitions.specs.Lists.{_∈_, all, filter, joined}
 use Rattle.definitions.specs.Words.{variable, Pattern, Rule, Problem}
 use Rattle.definitions.specs.Instances.{occursIn}
 use Rattle.definitions.specs.Sheet.{Line, lines, Number, plus, number, decimal}
-use Rattle.definitions.specs.Questions.{no, yes, columns, accepted, read}
+use Rattle.definitions.specs.Questions.{Asked, no, yes, columns, goodLength, accepted, read}
 use Rattle.definitions.specs.Listing.{answerNumber}
 use Rattle.definitions.specs.Call.{call, listedPart}
 use Rattle.definitions.specs.declared.Verdict.{Verdict}
@@ -26,12 +27,16 @@ pub data Answers (sheet : List ℕ) (budget : ℕ) (room : List ℕ) (v : Verdic
   handsBack : (c : Counts) → call sheet budget room ≡ Answered c → c .verdict ≡ v → Answers sheet budget room v
   lists : decimal (take 4 (drop 4 (listedPart sheet budget room))) ≡ number (plus (answerNumber v)) → Answers sheet budget room v
 
--- the numbers of a line
+-- the filled columns of a line
 abbrev pub Row : Type 0
 Row = List Number
 
+-- they, or the question that a column fails
+unfoldable pub filled : Line → Asked Row
+filled l = columns (l .bytes)
+
 unfoldable pub rowOf : Line → Row
-rowOf l = elim (columns (l .bytes)) [ no q ↦ [] | yes ns ↦ ns ]
+rowOf l = elim (filled l) [ no q ↦ [] | yes ns ↦ ns ]
 
 unfoldable pub isKind : ℕ → Row → Bool
 isKind k [] = false
@@ -50,12 +55,29 @@ unfoldable pub constantsOf : List ℕ → ℕ
 constantsOf sheet = firstSize (joined (drop 1) (ofKind 1 sheet))
 
 -- a second sheet "keeps" the first one's constants if it has at least as many, its symbols if they stand under the same
--- numbers with the same arities, its rules and clauses if each of their lines is there, wherever it stands
+-- numbers with the same arities, its rules and clauses if each of their lines is there, wherever it stands; a line is there if one with
+-- the same filled columns is (document 02, 3/14)
 pub record Keeps (first second : List ℕ) : Type 0 where
   pub constants : constantsOf first ≤ constantsOf second
   pub symbols : (more : List Row) × (ofKind 2 second ≡ ofKind 2 first ++ more)
   pub rules : (r : Row) → r ∈ ofKind 3 first → r ∈ ofKind 3 second
   pub clauses : (r : Row) → r ∈ ofKind 4 first → r ∈ ofKind 4 second
+
+-- 3/14: two sheets are "filled alike" if all their lines pass questions 4 and 5 and have, line by line, the same filled columns
+unfoldable pub passes : Line → Bool
+passes l = l .ended && goodLength (length (l .bytes))
+
+pub record FilledAlike (first second : List ℕ) : Type 0 where
+  pub firstPasses : all passes (lines first) ≡ true
+  pub secondPasses : all passes (lines second) ≡ true
+  pub same : map filled (lines first) ≡ map filled (lines second)
+
+-- "four blanks", and any column or line of blanks
+unfoldable pub blankColumn : List ℕ
+blankColumn = 32 ∷ 32 ∷ 32 ∷ 32 ∷ []
+
+unfoldable pub isBlank : List ℕ → Bool
+isBlank = all (λ b. eqb b 32)
 
 -- a head of a rule, and "another": the heads before it and behind it, of which there are some
 pub record HeadAmong (r : Rule) : Type 0 where
@@ -76,5 +98,5 @@ Apart h = (v : ℕ) → variable v ∈ h .head .terms → occursIn (h .before ++
 
 -- names every definition of this module, for a theorem that computes with all of them
 unfoldable pub Sheets·all : Unit {0}
-unfolding rowOf isKind ofKind firstSize constantsOf
+unfolding filled rowOf isKind ofKind firstSize constantsOf passes blankColumn isBlank
 Sheets·all = tt

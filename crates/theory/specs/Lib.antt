@@ -17,6 +17,7 @@ pub mod Reading
 pub mod Inclusion
 pub mod Limits
 pub mod Connected
+pub mod BlankColumns
 pub mod Sources
 pub mod Invariants
 pub mod ListingLaws

@@ -12,7 +12,7 @@ use Rattle.definitions.specs.Lists.{_∈_, isEmpty, filter, joined}
 use Rattle.definitions.specs.Words.{Rule, Clause, Problem, goalAtoms}
 use Rattle.definitions.specs.Sheet.{Line, lines, Number}
 use Rattle.definitions.specs.Questions.{Asked, yes, Parsed, count, kindOf, constantsAsked, arityAsked, ruleCounts, ruleAsked, clauseCount, clauseAsked, withConstants, withSymbol, withRule, withClause, constantsLine, symbolLine, ruleLine, clauseLine, lineOfKind, goodLength, columnsAsked, Draft, readLine, accepted, readLines, emptyDraft, read}
-use Rattle.definitions.specs.Sheets.{Row, rowOf, isKind, ofKind, firstSize, constantsOf}
+use Rattle.definitions.specs.Sheets.{Row, filled, rowOf, isKind, ofKind, firstSize, constantsOf}
 use Rattle.theory.specs.Tests.{by-test, apart}
 use Rattle.theory.specs.ListLaws.{in-along}
 use Rattle.theory.specs.AskedLaws.{yes-injective, by-asked, bind-yes, ask-yes, yes-bind, count-yes, readRule, readClause}
@@ -129,7 +129,7 @@ kind-read (suc b) s ns k p e h =
     }
 
 line-read : (d : Draft) (l : Line) (e : Draft) → readLine d l ≡ yes e → LineRead (d .before) (d .problem) (rowOf l) (e .before) (e .problem)
-unfolding readLine columnsAsked rowOf
+unfolding readLine columnsAsked filled rowOf
 line-read d l e h =
     let (ns, c, h₁) = bind-yes (columnsAsked l) _ e h in
     let (_, c₁) = ask-yes 4 (l .ended) _ ns c in

@@ -1,0 +1,159 @@
+-- Document 02, 3/14: blank columns change nothing but questions 2 and 5, and a line of blanks has no kind. Assumes nothing.
+use Prim.Native.Nat.{ℕ, zero, suc, _%_, _*_, _+_, _-_, _≤_}
+use mathlib.Core.Path.{_≡_, refl, sym, ap, _∙_}
+use mathlib.Core.Bool.{Bool, true, false, _&&_}
+use mathlib.Core.List.{List, [], _∷_, _++_, map, map-map, append-nil}
+use native.Mathlib.Nat.{le-refl}
+use native.Mathlib.Omega.{arith}
+use lib.Dec.{eqb, leb}
+use lib.ListN.{length}
+use borrow.Author.Tests.{eqb-true, le-leb}
+use Rattle.definitions.specs.Lists.{isEmpty, all, filter}
+use Rattle.definitions.specs.Bounds.{sheetBytes, longestLine}
+use Rattle.definitions.specs.Sheet.{Line, putByte, lines, nothing, isDigit, digits, natural, signed, decimal}
+use Rattle.definitions.specs.Questions.{Asked, no, yes, _>>=_, _>>_, ask, inFront, columns, count, kindOf, goodLength, columnsAsked, Draft, readLine, readLines, emptyDraft, read}
+use Rattle.definitions.specs.Call.{Lending, firstShort, afterLending}
+use Rattle.definitions.specs.Sheets.{Row, filled, rowOf, isKind, ofKind, constantsOf, Keeps, passes, FilledAlike, blankColumn, isBlank}
+use Rattle.theory.specs.Tests.{by-test, by-option, apart, and-left, and-right}
+use Rattle.theory.specs.AskedLaws.{by-asked}
+
+-- ── what is read as nothing ──
+
+digits-something : (negative : Bool) (n : ℕ) (bs : List ℕ) → digits negative n bs ≡ nothing → ⊥
+unfolding digits
+digits-something negative n [] e = apart (cc)
+digits-something negative n (b ∷ bs) e = by-test (isDigit b) (λ t. digits-something negative (n * 10 + (b - 48)) bs (cc)) (λ t. apart (cc))
+
+natural-something : (negative : Bool) (bs : List ℕ) → natural negative bs ≡ nothing → ⊥
+unfolding natural
+natural-something negative [] e = apart (cc)
+natural-something negative (b ∷ bs) e = by-test (leb 49 b) (λ t. digits-something negative 0 (b ∷ bs) (cc)) (λ t. apart (cc))
+
+signed-something : (b : ℕ) (bs : List ℕ) → signed (b ∷ bs) ≡ nothing → ⊥
+unfolding signed
+signed-something b bs e =
+    by-test (eqb b 45)
+    (λ t. natural-something true bs (cc))
+    (λ t. by-test (eqb b 48 && isEmpty bs) (λ u. apart (cc)) (λ u. natural-something false (b ∷ bs) (cc)))
+
+-- only blanks are
+pub nothing-blank : (bs : List ℕ) → decimal bs ≡ nothing → isBlank bs ≡ true
+unfolding decimal isBlank all
+nothing-blank [] e = refl
+nothing-blank (b ∷ bs) e = by-test (eqb b 32) (λ t. cc (nothing-blank bs (cc))) (λ t. absurd (signed-something b bs (cc)))
+
+-- ── a blank column among others ──
+
+-- it is passed over wherever it stands
+pub passed-over : (front back : List ℕ) → length front % 4 ≡ 0 → columns (front ++ blankColumn ++ back) ≡ columns (front ++ back)
+unfolding columns inFront decimal blankColumn
+passed-over [] back h = refl
+passed-over (a ∷ []) back h = apart (omega arith)
+passed-over (a ∷ b ∷ []) back h = apart (omega arith)
+passed-over (a ∷ b ∷ c ∷ []) back h = apart (omega arith)
+passed-over (a ∷ b ∷ c ∷ d ∷ front) back h = ap (inFront (decimal (a ∷ b ∷ c ∷ d ∷ []))) (passed-over front back (omega arith))
+
+-- ── a line of blanks ──
+
+blank-columns : (bs : List ℕ) → length bs % 4 ≡ 0 → isBlank bs ≡ true → columns bs ≡ yes []
+unfolding columns inFront decimal isBlank all
+blank-columns [] h e = refl
+blank-columns (a ∷ []) h e = apart (omega arith)
+blank-columns (a ∷ b ∷ []) h e = apart (omega arith)
+blank-columns (a ∷ b ∷ c ∷ []) h e = apart (omega arith)
+blank-columns (a ∷ b ∷ c ∷ d ∷ bs) h e =
+    let e₁ = and-right (eqb a 32) _ e in
+    let e₂ = and-right (eqb b 32) _ e₁ in
+    let e₃ = and-right (eqb c 32) _ e₂ in
+    let rest = blank-columns bs (omega arith) (and-right (eqb d 32) _ e₃) in
+    rw (eqb-true a 32 (and-left (eqb a 32) _ e), eqb-true b 32 (and-left (eqb b 32) _ e₁), eqb-true c 32 (and-left (eqb c 32) _ e₂), eqb-true d 32 (and-left (eqb d 32) _ e₃)) rest
+
+-- what 4 to 6 say of a line that passes 4 and 5
+passed-columns : (l : Line) → passes l ≡ true → columnsAsked l ≡ filled l
+unfolding passes filled columnsAsked ask _>>_
+passed-columns l p = cc (and-left (l .ended) _ p, and-right (l .ended) _ p)
+
+passed-length : (l : Line) → passes l ≡ true → length (l .bytes) % 4 ≡ 0
+unfolding passes goodLength
+passed-length l p =
+    let n = length (l .bytes) in
+    eqb-true (n % 4) 0 (and-right (leb 4 n && leb n longestLine) _ (and-right (l .ended) _ p))
+
+kind-of-none : (before : ℕ) → kindOf before [] ≡ no 7
+unfolding kindOf count _>>=_
+kind-of-none zero = refl
+kind-of-none (suc before) = refl
+
+pub blank-line : (d : Draft) (l : Line) → passes l ≡ true → isBlank (l .bytes) ≡ true → readLine d l ≡ no 7
+unfolding readLine filled _>>=_
+blank-line d l p e = cc (passed-columns l p, blank-columns (l .bytes) (passed-length l p) e, kind-of-none (d .before))
+
+-- ── sheets that are filled alike ──
+
+alike-lines : (d : Draft) (n : ℕ) (ls ms : List Line) → all passes ls ≡ true → all passes ms ≡ true → map filled ls ≡ map filled ms → readLines d n ls ≡ readLines d n ms
+unfolding all readLines
+alike-lines d n [] [] p q e = refl
+alike-lines d n [] (m ∷ ms) p q e = apart (cc)
+alike-lines d n (l ∷ ls) [] p q e = apart (cc)
+alike-lines d n (l ∷ ls) (m ∷ ms) p q e =
+    by-asked (readLine d l)
+    (λ r g. cc line)
+    (λ f g. cc (line, alike-lines f (suc n) ls ms (and-right (passes l) _ p) (and-right (passes m) _ q) (cc)))
+  where
+    line : readLine d l ≡ readLine d m
+    line = unfold readLine in cc (passed-columns l (and-left (passes l) _ p), passed-columns m (and-left (passes m) _ q))
+
+-- bytes make a line
+some-line : (b : ℕ) (bs : List ℕ) → lines (b ∷ bs) ≡ [] → ⊥
+unfolding lines
+some-line b bs e = by-test (eqb b 10) (λ t. apart (cc)) (λ t. some (lines bs) (cc))
+  where
+    some : (ls : List Line) → putByte b ls ≡ [] → ⊥
+    some [] f = unfold putByte in apart (cc)
+    some (l ∷ ls) f = unfold putByte in apart (cc)
+
+empty-lines : (sheet : List ℕ) → isEmpty (map filled (lines sheet)) ≡ isEmpty sheet
+unfolding isEmpty lines
+empty-lines [] = refl
+empty-lines (b ∷ bs) = some (lines (b ∷ bs)) (some-line b bs)
+  where
+    some : (ls : List Line) → (ls ≡ [] → ⊥) → isEmpty (map filled ls) ≡ false
+    some [] n = absurd (n refl)
+    some (l ∷ ls) n = refl
+
+module _ (first second : List ℕ) (alike : FilledAlike first second) where
+  -- they are read alike: the same refusal at the same line, or the same problem
+  pub same-reading : length first ≤ sheetBytes → length second ≤ sheetBytes → read first ≡ read second
+  unfolding read
+  same-reading h k =
+      let empty : isEmpty first ≡ isEmpty second = sym (empty-lines first) ∙ ap isEmpty (alike .same) ∙ empty-lines second in
+      let rest = alike-lines emptyDraft 1 (lines first) (lines second) (alike .firstPasses) (alike .secondPasses) (alike .same) in
+      let short = le-leb (length first) sheetBytes h in
+      let fits = le-leb (length second) sheetBytes k in
+      by-test (isEmpty first) (λ t. cc) (λ t. cc)
+
+  -- and so every call comes to the same, whatever is lent
+  pub same-results : length first ≤ sheetBytes → length second ≤ sheetBytes → (ls : List Lending) (budget : ℕ) → afterLending ls first budget ≡ afterLending ls second budget
+  unfolding afterLending
+  same-results h k ls budget = let alike-read = same-reading h k in by-option (firstShort ls) (λ t. cc) (λ q t. cc)
+
+  -- what one says the other one keeps
+  same-rows : (k : ℕ) → ofKind k first ≡ ofKind k second
+  unfolding ofKind
+  same-rows k = ap (λ rows. filter (isKind k) rows) (sym (rows first) ∙ ap (map asRow) (alike .same) ∙ rows second)
+    where
+      asRow : Asked Row → Row
+      asRow asked = elim asked [ no q ↦ [] | yes ns ↦ ns ]
+
+      rows : (sheet : List ℕ) → map asRow (map filled (lines sheet)) ≡ map rowOf (lines sheet)
+      rows sheet = unfold rowOf in map-map asRow filled (lines sheet)
+
+  pub same-keeps : Keeps first second
+  unfolding constantsOf
+  same-keeps =
+      record {
+        constants = rw (same-rows 1) (le-refl _);
+        symbols = ([], rw (same-rows 2) (sym (append-nil _)));
+        rules = λ r m. rw (same-rows 3) at m;
+        clauses = λ r m. rw (same-rows 4) at m;
+      }
