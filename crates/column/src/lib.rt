@@ -11,9 +11,10 @@ ghost use Rattle.column.specs.Column.{columnOf, sizeOf};
 ghost use Rattle.column.specs.Scan.{readOn, sizeBefore, ReadAs};
 ghost use Rattle.column.specs.Places.{sign, PutLast};
 
-// What stands in a column: a number, its sign apart from its size, or no decimal.
+// What stands in a column: a number, its sign apart from its size; nothing, where it is blank; or a fault.
 pub enum ColumnRead {
     Number { negative: bool, size: u16 },
+    Nothing,
     Fault,
 }
 
@@ -93,7 +94,7 @@ fn finish(scan: Scan) -> ColumnRead
             negative: false,
             size: 0,
         },
-        Scan::Blanks => ColumnRead::Fault,
+        Scan::Blanks => ColumnRead::Nothing,
         Scan::Minus => ColumnRead::Fault,
         Scan::Failed => ColumnRead::Fault,
     }

@@ -7,7 +7,7 @@ use lib.ListN.{length, getD, drop}
 use Rattle.definitions.specs.Lists.{isEmpty}
 use Rattle.definitions.specs.Questions.{no, yes, _>>_, ask, within, count}
 use Rattle.encoding.specs.Signs.{numberOf, numbers}
-use Rattle.sheet.specs.RowLaws.{numbers-cons, numbers-end}
+use Rattle.rows.specs.RowLaws.{numbers-cons, numbers-end}
 
 module _ (n : ℕ) (row : List ℕ) (i : ℕ) where
   pub no-column : n ≤ i → isEmpty (drop i (numbers n row)) ≡ true

@@ -2,9 +2,6 @@ pub mod ClauseLines
 pub mod CountColumns
 pub mod CountLines
 pub mod LineKinds
-pub mod RowLoops
-pub mod RowQuestions
-pub mod RowTests
 pub mod RuleLines
 pub mod Sheets
 pub mod SlotWalks

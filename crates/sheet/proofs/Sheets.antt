@@ -1,30 +1,32 @@
 -- The loop of `read_sheet` over the lines of a sheet: what is left of the sheet, read behind the draft so far, comes to what
 -- all of it comes to, and the arrays hold the draft. Assumes nothing.
-use Prim.Native.Nat.{ℕ, zero, suc, _+_, _-_, _/_, _<_, _≤_}
+use Prim.Native.Nat.{ℕ, suc, _+_, _-_, _<_, _≤_}
 use mathlib.Core.Path.{_≡_, refl, sym, ap, _∙_}
 use mathlib.Core.Logic.{inl, inr}
-use mathlib.Core.Bool.{true, false, _&&_}
+use mathlib.Core.Bool.{true, false}
 use mathlib.Core.List.{List, [], _∷_}
 use native.Mathlib.Omega.{arith}
 use native.Mathlib.Numerals.{add-one}
-use lib.Dec.{leb, ltb}
-use lib.ListN.{length, getD, take, drop, set, length-drop, drop-of-length-le}
-use lib.Seq.{sets, set-set, length-take-le, take-all, drop-cons, drop-drop}
-use borrow.Author.Tests.{ltb-true, ltb-false, leb-true, le-leb, lt-leb}
+use lib.Dec.{ltb}
+use lib.ListN.{length, getD, drop, set, length-drop, drop-of-length-le}
+use lib.Seq.{sets, set-set, take-all, drop-cons, drop-drop}
+use borrow.Author.Tests.{ltb-true, ltb-false, le-leb, lt-leb}
 use Rattle.definitions.specs.Lists.{isEmpty, joined, distinct}
 use Rattle.definitions.specs.Words.{Clause, Problem, goalAtoms}
-use Rattle.definitions.specs.Sheet.{Line, lines, Number, decimal}
-use Rattle.definitions.specs.Questions.{Asked, no, yes, asNumber, columns, goodLength, columnsAsked, Draft, readLine, refused, accepted, readLines, emptyDraft, read}
-use Rattle.theory.specs.Tests.{by-test, apart, and-left, and-right}
+use Rattle.definitions.specs.Sheet.{Line, lines}
+use Rattle.definitions.specs.Questions.{Asked, no, yes, Parsed, columnsAsked, Draft, readLine, refused, accepted, readLines, emptyDraft, read}
+use Rattle.theory.specs.Tests.{by-test, apart}
 use Rattle.theory.specs.AskedLaws.{bind-yes, ask-yes}
 use Rattle.theory.specs.Limits.{line-begun}
-use Rattle.encoding.specs.Signs.{numberOf, numbers}
-use Rattle.sheet.specs.Rows.{lineLength, kindHere}
-use Rattle.sheet.specs.RowLaws.{lineLength-le, lines-none, lines-ended, lines-unended}
+use Rattle.encoding.specs.Signs.{numbers}
+use Rattle.rows.specs.Rows.{lineLength, lineAt, startOf, startAsked}
+use Rattle.rows.specs.RowLaws.{lineLength-le, lines-none, lines-ended, lines-unended}
 use Rattle.encoding.specs.Encoding.{startsFrom, indexFrom, emptyIndex, sizesOf, Arrays, arrays, hold}
-use Rattle.sheet.specs.LineReads.{Ready, LineHeld, columnsRead, SheetRead}
-use Rattle.sheet.specs.SheetLaws.{Started, draft-ready, columns-refused, kind-refused, LineEnds, line-ends}
+use Rattle.sheet.specs.LineReads.{Ready, LineHeld, SheetRead}
+use Rattle.sheet.specs.SheetLaws.{Started, draft-ready, start-refused, LineEnds, line-ends}
 use Rattle.encoding.specs.declared.Sizes.{Sizes}
+use Rattle.rows.specs.declared.LineStart.{LineStart}
+use Rattle.rows.specs.declared.LineStart.the-variants.{No as NoStart, Kind}
 use Rattle.sheet.specs.declared.Read.the-variants.{Accepted}
 use Rattle.sheet.specs.declared.LineRead.{LineRead}
 use Rattle.sheet.specs.declared.LineRead.the-variants.{No, Yes}
@@ -56,10 +58,6 @@ module _ (sheet : List ℕ) where
 
 -- ── the line at a place of the sheet ──
 
--- from there to its LF, or to the sheet's end
-abbrev pub lineAt : List ℕ → ℕ → ℕ → Line
-lineAt sheet from end = record { bytes = take (end - from) (drop from sheet); ended = ltb end (length sheet) }
-
 module _ (sheet : List ℕ) (from end : ℕ) (inside : from < length sheet) (ends : end ≡ from + lineLength (drop from sheet)) where
   pub line-inside : (from ≤ end) × (end ≤ length sheet)
   line-inside = omega (arith, lineLength-le (drop from sheet), length-drop from sheet)
@@ -81,50 +79,12 @@ module _ (sheet : List ℕ) (from end : ℕ) (inside : from < length sheet) (end
       rw (t, take-all (end - from) (drop from sheet) all, drop-of-length-le sheet {i = end + 1} (omega arith), lines-none, last)
       (lines-unended (getD sheet from 0) (drop (suc from) sheet) (rw last at whole)))
 
-  line-size : length (take (end - from) (drop from sheet)) ≡ end - from
-  line-size = length-take-le (end - from) (drop from sheet) (omega (arith, line-inside, length-drop from sheet))
-
-  -- what a line says whose columns were read: questions 4 and 5 are answered yes
-  line-answered : (ns : List Number) → columnsAsked (lineAt sheet from end) ≡ yes ns
-      → (end < length sheet) × (4 ≤ end - from) × (end - from ≤ 136) × (columns (take (end - from) (drop from sheet)) ≡ yes ns)
-  unfolding columnsAsked goodLength
-  line-answered ns e =
-      let n = end - from in
-      let (lf, e₁) = ask-yes 4 (ltb end (length sheet)) _ ns e in
-      let (good, e₂) = ask-yes 5 (goodLength (length (take n (drop from sheet)))) _ ns e₁ in
-      let bounds = and-left (leb 4 n && leb n 136) _ (rw line-size at good) in (
-        ltb-true end (length sheet) lf,
-        leb-true 4 n (and-left (leb 4 n) _ bounds),
-        leb-true n 136 (and-right (leb 4 n) _ bounds),
-        e₂,
-      )
-
--- a line with columns has a first word
-some-columns : (bs : List ℕ) → 1 ≤ length bs → columns bs ≡ yes [] → ⊥
-unfolding columns
-some-columns [] h e = omega arith
-some-columns (a ∷ []) h e = apart (cc)
-some-columns (a ∷ b ∷ []) h e = apart (cc)
-some-columns (a ∷ b ∷ c ∷ []) h e = apart (cc)
-some-columns (a ∷ b ∷ c ∷ d ∷ bs) h e =
-    let (n, _, e₁) = bind-yes (asNumber (decimal (a ∷ b ∷ c ∷ d ∷ []))) _ [] e in
-    let (ns, _, e₂) = bind-yes (columns bs) _ [] e₁ in
-    apart (cc)
-
-numbers-first : (n : ℕ) (row : List ℕ) → 1 ≤ n → (numbers n row ≡ [] → ⊥) → numbers n row ≡ numberOf (getD row 0 0) ∷ drop 1 (numbers n row)
-unfolding numbers
-numbers-first zero row h some = apart (omega arith)
-numbers-first (suc n) [] h some = absurd (some refl)
-numbers-first (suc n) (w ∷ row) h some = refl
-
-columns-read-no : (q : ℕ) (ns : List Number) → (q ≡ 0 → ⊥) → columnsRead q ns ≡ no q
-unfolding columnsRead
-columns-read-no zero ns n = absurd (n refl)
-columns-read-no (suc q) ns n = refl
-
-columns-read-yes : (q : ℕ) (ns : List Number) → q ≡ 0 → columnsRead q ns ≡ yes ns
-unfolding columnsRead
-columns-read-yes q ns e = cc
+-- a line that questions 4 to 7 let pass has its LF
+start-ended : (before : ℕ) (l : Line) (k : Parsed ℕ) → startOf before l ≡ yes k → l .ended ≡ true
+unfolding startOf columnsAsked
+start-ended before l k e =
+    let (ns, columns, _) = bind-yes (columnsAsked l) _ k e in
+    ask-yes 4 (l .ended) _ ns columns .0
 
 -- ── the arrays before the first line ──
 
@@ -187,35 +147,14 @@ module _ {sheet arities rules : List ℕ} (starts : List ℕ) {literals table in
       let all : read sheet ≡ accepted (reached .draft .problem) = sym (reached .rest) ∙ cc (lines-none) in
       rw all (ap Accepted (reached .sizes), reached .holds ∙ hold-zero arities rules starts literals table index (reached .draft .problem))
 
--- the line that starts there: its end, its columns as words in a row, and the question that they were refused by, or 0
-pub record Asks (sheet : List ℕ) (from end fault : ℕ) (row : List ℕ) : Type 0 where
+-- the line that starts there: its end, and questions 4 to 7 by what was handed back, its filled columns as words in a row
+pub record Starts (sheet : List ℕ) (before from end : ℕ) (start : LineStart) (row : List ℕ) : Type 0 where
   pub more : from < length sheet
   pub ends : end ≡ from + lineLength (drop from sheet)
-  pub asked : columnsAsked (lineAt sheet from end) ≡ columnsRead fault (numbers ((end - from) / 4) row)
-
-module _ {sheet : List ℕ} {from end fault : ℕ} {row : List ℕ} (asks : Asks sheet from end fault row) (none : fault ≡ 0) where
-  read-columns : columnsAsked (lineAt sheet from end) ≡ yes (numbers ((end - from) / 4) row)
-  read-columns = asks .asked ∙ columns-read-yes fault _ none
-
-  answered : (end < length sheet) × (4 ≤ end - from) × (end - from ≤ 136) × (columns (take (end - from) (drop from sheet)) ≡ yes (numbers ((end - from) / 4) row))
-  answered = line-answered sheet from end (asks .more) (asks .ends) _ read-columns
-
-  pub asks-count : (1 ≤ (end - from) / 4) × ((end - from) / 4 ≤ 34)
-  asks-count = omega (arith, answered)
-
-  first-word : columnsAsked (lineAt sheet from end) ≡ yes (numberOf (getD row 0 0) ∷ drop 1 (numbers ((end - from) / 4) row))
-  first-word =
-      let some : 1 ≤ length (take (end - from) (drop from sheet)) = rw (line-size sheet from end (asks .more) (asks .ends)) (omega (arith, answered)) in
-      read-columns
-      ∙ ap yes (numbers-first ((end - from) / 4) row (asks-count .0) (λ e. some-columns (take (end - from) (drop from sheet)) some (answered .3 ∙ ap yes e)))
+  pub asked : startOf before (lineAt sheet from end) ≡ startAsked start row
 
 -- what a line comes to, by the answer of its reader
 module _ (start : Arrays) (empty : start .index ≡ emptyIndex) (wide : length (start .arities) ≡ 16) where
-  kind-ends : (d : Draft) → Started d → (l : Line) (n : Number) (ns : List Number) (k : ℕ) → (k ≡ 0 → ⊥) → columnsAsked l ≡ yes (n ∷ ns) → kindHere (d .before) n ≡ k
-      → (r : LineRead) (after : Arrays) → LineHeld k ns r (sizesOf (d .problem)) (hold (d .problem) start) after → LineEnds start empty wide (readLine d l) k r after
-  kind-ends d i l n ns zero some e f r after h = absurd (some refl)
-  kind-ends d i l n ns (suc k) some e f r after h = line-ends start empty wide d i l n ns k e f r after h
-
   ends-no : (m : Asked Draft) (k : ℕ) (r : LineRead) (after : Arrays) → LineEnds start empty wide m k r after → (q : ℕ) → r ≡ No q → m ≡ no q
   ends-no (no p) k r after h q e = cc
   ends-no (yes d) k r after h q e = let g = h .1 in apart (cc)
@@ -231,40 +170,40 @@ module _ {sheet : List ℕ} {start held : Arrays} {s : Sizes} {before from line 
       rw (reached .sizes, reached .holds)
       (draft-ready start (reached .empty) (reached .wide) (reached .draft) (reached .started))
 
-  module _ {end fault : ℕ} {row : List ℕ} (asks : Asks sheet from end fault row) where
+  module _ {end : ℕ} {handed : LineStart} {row : List ℕ} (starts : Starts sheet before from end handed row) where
+    asked : startOf (reached .draft .before) (lineAt sheet from end) ≡ startAsked handed row
+    asked = rw (reached .kind) (starts .asked)
+
     -- a line that is refused: its question and its number are the sheet's
     line-refused : (q : ℕ) → readLine (reached .draft) (lineAt sheet from end) ≡ no q → read sheet ≡ refused q line
     unfolding readLines
-    line-refused q e = sym (reached .rest) ∙ cc (line-first sheet from end (asks .more) (asks .ends))
+    line-refused q e = sym (reached .rest) ∙ cc (line-first sheet from end (starts .more) (starts .ends))
 
-    -- question 4, 5 or 6 is answered no
-    pub columns-stop : (fault ≡ 0 → ⊥) → read sheet ≡ refused fault line
-    columns-stop n = line-refused fault (columns-refused (reached .draft) _ fault (asks .asked ∙ columns-read-no fault _ n))
+    -- one of questions 4 to 7 is answered no
+    pub start-stop : {q : ℕ} → handed ≡ NoStart q → read sheet ≡ refused q line
+    unfolding startAsked
+    start-stop {q} e = line-refused q (start-refused (reached .draft) _ q (asked ∙ rw e))
 
-    module _ (none : fault ≡ 0) {kind : ℕ} (found : kind ≡ kindHere before (numberOf (getD row 0 0))) where
-      here : kindHere (reached .draft .before) (numberOf (getD row 0 0)) ≡ kind
-      here = rw (reached .kind) (sym found)
+    module _ {kind filled : ℕ} (e : handed ≡ Kind kind filled) where
+      kind-asked : startOf (reached .draft .before) (lineAt sheet from end) ≡ yes (record { found = kind; left = drop 1 (numbers filled row) })
+      unfolding startAsked
+      kind-asked = asked ∙ rw e
 
-      -- question 7 is answered no
-      pub kind-stop : kind ≡ 0 → read sheet ≡ refused 7 line
-      kind-stop z = line-refused 7 (kind-refused (reached .draft) _ _ _ (first-word asks none) (here ∙ z))
-
-      module _ (some : kind ≡ 0 → ⊥) (answer : LineRead) (after : Arrays)
-          (line-held : LineHeld kind (drop 1 (numbers ((end - from) / 4) row)) answer s held after) where
+      module _ (answer : LineRead) (after : Arrays) (line-held : LineHeld kind (drop 1 (numbers filled row)) answer s held after) where
         ended : LineEnds start (reached .empty) (reached .wide) (readLine (reached .draft) (lineAt sheet from end)) kind answer after
         ended =
-            kind-ends start (reached .empty) (reached .wide) (reached .draft) (reached .started) _ _ _ kind some (first-word asks none) here answer after
+            line-ends start (reached .empty) (reached .wide) (reached .draft) (reached .started) _ kind _ kind-asked answer after
             (rw (reached .sizes, reached .holds) at line-held)
 
         -- one of questions 8 to 14 is answered no
         pub line-stop : {q : ℕ} → answer ≡ No q → read sheet ≡ refused q line
-        line-stop {q} e = line-refused q (ends-no start (reached .empty) (reached .wide) _ kind answer after ended q e)
+        line-stop {q} f = line-refused q (ends-no start (reached .empty) (reached .wide) _ kind answer after ended q f)
 
         -- the line is read, and the next one stands behind its LF
         pub reached-next : {next : Sizes} → answer ≡ Yes next → ReadUpTo sheet start after next kind (end + 1) (line + 1)
         unfolding readLines
-        reached-next {next} e =
-            let (d, q, k, z, h) = ends-yes start (reached .empty) (reached .wide) _ kind answer after ended next e in
+        reached-next {next} f =
+            let (d, q, k, z, h) = ends-yes start (reached .empty) (reached .wide) _ kind answer after ended next f in
             record {
               short = reached .short;
               empty = reached .empty;
@@ -274,7 +213,7 @@ module _ {sheet : List ℕ} {start held : Arrays} {s : Sizes} {before from line 
               kind = k;
               sizes = z;
               holds = h;
-              inside = omega (arith, answered asks none);
-              counted = omega (arith, reached .counted, asks .ends);
-              rest = cc (reached .rest, q, line-first sheet from end (asks .more) (asks .ends), add-one line);
+              inside = omega (arith, ltb-true end (length sheet) (start-ended _ _ _ kind-asked));
+              counted = omega (arith, reached .counted, starts .ends);
+              rest = cc (reached .rest, q, line-first sheet from end (starts .more) (starts .ends), add-one line);
             }

@@ -13,7 +13,7 @@ use Rattle.definitions.specs.Questions.{Asked, no, yes, Parsed, literals, patte
 use Rattle.theory.specs.AskedLaws.{by-asked}
 use Rattle.column.specs.Sets.{sets-front, sets-taken}
 use Rattle.encoding.specs.Signs.{numbers}
-use Rattle.sheet.specs.RowLaws.{numbers-length}
+use Rattle.rows.specs.RowLaws.{numbers-length}
 use Rattle.literals.specs.SlotReads.{argument, SlotsRead}
 use Rattle.encoding.specs.Slots.{slotWords}
 use Rattle.literals.specs.SlotReadLaws.{literals-fewer, literals-refusal}

@@ -1,5 +1,5 @@
 -- What the readers of a line of each kind say, by what the questions come to. Assumes nothing.
-use Prim.Native.Nat.{ℕ, zero, suc, _+_, _*_, _≤_}
+use Prim.Native.Nat.{ℕ, _+_, _*_, _≤_}
 use mathlib.Core.Path.{_≡_}
 use mathlib.Core.Bool.{true, false}
 use mathlib.Core.List.{List, map}
@@ -120,11 +120,6 @@ LineHeld k ns r s before after =
         ]
       ]
     ]
-
--- questions 4 to 6 of a line, by the number of the one that is answered no, or 0
-unfoldable pub columnsRead : ℕ → List Number → Asked (List Number)
-columnsRead zero ns = yes ns
-columnsRead (suc q) ns = no (suc q)
 
 -- the whole sheet: the refusal, or the sizes and the arrays that hold the problem
 abbrev pub SheetRead : Reading → Read → Arrays → Arrays → Type 0

@@ -1,6 +1,6 @@
 -- One line more: what the reader of a line leaves in the arrays is what the questions read, and so for the whole sheet.
 -- Assumes nothing.
-use Prim.Native.Nat.{ℕ, suc, _+_, _≤_}
+use Prim.Native.Nat.{ℕ, _+_, _≤_}
 use mathlib.Core.Path.{_≡_, refl, sym, ap, subst, _∙_}
 use mathlib.Core.Logic.{_⊎_, inl, inr}
 use mathlib.Core.List.{List, [], _∷_, _++_, map, append-nil, List·Memᴰ·not-nil}
@@ -13,10 +13,10 @@ use Rattle.definitions.specs.Sheet.{Line, Number}
 use Rattle.definitions.specs.Questions.{Asked, no, yes, _>>=_, _>>_, ask, constantsAsked, arityAsked, ruleAsked, clauseAsked, withConstants, withSymbol, withRule, withClause, constantsLine, symbolLine, ruleLine, clauseLine, lineOfKind, columnsAsked, Draft, readLine, emptyDraft}
 use Rattle.theory.specs.Tests.{by-test}
 use Rattle.theory.specs.ListLaws.{joined-append, joined-length}
+use Rattle.theory.specs.AskedLaws.{by-asked}
 use Rattle.theory.specs.Limits.{LiteralLimits, Limits, arity-limit, clause-asked-limits, Begun}
 use Rattle.column.specs.Sets.{sets-taken}
-use Rattle.sheet.specs.Rows.{kindHere, kindAsked}
-use Rattle.sheet.specs.RowLaws.{kind-here}
+use Rattle.rows.specs.Rows.{startOf}
 use Rattle.encoding.specs.Slots.{asPattern, slotWords}
 use Rattle.literals.specs.Entering.{Entered}
 use Rattle.encoding.specs.Encoding.{Arrays, emptyIndex, sizesOf, hold}
@@ -179,19 +179,20 @@ module _ (before : Arrays) (empty : before .index ≡ emptyIndex) (wide : length
 
 -- ── the questions of a line, from the columns on ──
 
--- 4 to 6 are answered no, or 7
-pub columns-refused : (d : Draft) (l : Line) (q : ℕ) → columnsAsked l ≡ no q → readLine d l ≡ no q
-unfolding _>>=_ readLine
-columns-refused d l q e = cc
+-- 4 to 7, and then the others
+after-start : (d : Draft) (l : Line) → readLine d l ≡ (startOf (d .before) l >>= λ k. lineOfKind (k .found) (d .problem) (k .left) >>= λ p. yes (record { before = k .found; problem = p }))
+unfolding readLine startOf _>>=_
+after-start d l = by-asked (columnsAsked l) (λ q e. cc) (λ ns e. cc)
 
-pub kind-refused : (d : Draft) (l : Line) (n : Number) (ns : List Number) → columnsAsked l ≡ yes (n ∷ ns) → kindHere (d .before) n ≡ 0 → readLine d l ≡ no 7
-unfolding _>>=_ readLine kindAsked
-kind-refused d l n ns e k = cc (kind-here (d .before) n ns)
+-- one of 4 to 7 is answered no
+pub start-refused : (d : Draft) (l : Line) (q : ℕ) → startOf (d .before) l ≡ no q → readLine d l ≡ no q
+unfolding _>>=_
+start-refused d l q e = cc (after-start d l)
 
-kind-found : (d : Draft) (l : Line) (n : Number) (ns : List Number) (k : ℕ) → columnsAsked l ≡ yes (n ∷ ns) → kindHere (d .before) n ≡ suc k
-    → readLine d l ≡ (lineOfKind (suc k) (d .problem) ns >>= λ p. yes (record { before = suc k; problem = p }))
-unfolding _>>=_ readLine kindAsked
-kind-found d l n ns k e f = cc (kind-here (d .before) n ns)
+kind-found : (d : Draft) (l : Line) (k : ℕ) (ns : List Number) → startOf (d .before) l ≡ yes (record { found = k; left = ns })
+    → readLine d l ≡ (lineOfKind k (d .problem) ns >>= λ p. yes (record { before = k; problem = p }))
+unfolding _>>=_
+kind-found d l k ns e = cc (after-start d l)
 
 module _ (before : Arrays) (empty : before .index ≡ emptyIndex) (wide : length (before .arities) ≡ 16) where
   -- what a line comes to, what the reader answers, and what the arrays hold then
@@ -199,11 +200,11 @@ module _ (before : Arrays) (empty : before .index ≡ emptyIndex) (wide : length
   LineEnds (no q) k r after = r ≡ No q
   LineEnds (yes e) k r after = (e .before ≡ k) × (r ≡ Yes (sizesOf (e .problem))) × (after ≡ hold (e .problem) before)
 
-  pub line-ends : (d : Draft) → Started d → (l : Line) (n : Number) (ns : List Number) (k : ℕ) → columnsAsked l ≡ yes (n ∷ ns) → kindHere (d .before) n ≡ suc k
-      → (r : LineRead) (after : Arrays) → LineHeld (suc k) ns r (sizesOf (d .problem)) (hold (d .problem) before) after → LineEnds (readLine d l) (suc k) r after
-  line-ends d i l n ns k e f r after h =
-      rw (kind-found d l n ns k e f) (from (lineOfKind (suc k) (d .problem) ns) (kind-next before empty wide d i (suc k) ns r after h))
+  pub line-ends : (d : Draft) → Started d → (l : Line) (k : ℕ) (ns : List Number) → startOf (d .before) l ≡ yes (record { found = k; left = ns })
+      → (r : LineRead) (after : Arrays) → LineHeld k ns r (sizesOf (d .problem)) (hold (d .problem) before) after → LineEnds (readLine d l) k r after
+  line-ends d i l k ns e r after h =
+      rw (kind-found d l k ns e) (from (lineOfKind k (d .problem) ns) (kind-next before empty wide d i k ns r after h))
     where
-      from : (m : Asked Problem) → LineNext before empty wide m r after → LineEnds (m >>= λ p. yes (record { before = suc k; problem = p })) (suc k) r after
+      from : (m : Asked Problem) → LineNext before empty wide m r after → LineEnds (m >>= λ p. yes (record { before = k; problem = p })) k r after
       from (no q) g = unfold _>>=_ in g
       from (yes p) g = unfold _>>=_ in (refl, g .0, g .1)

@@ -1,9 +1,9 @@
 // A sheet's bytes to the problem's arrays, question by question.
-mod rows; // rows.rt: lines, and the columns of a line as words
 mod lines; // lines.rt: a line of each kind
 
 use definitions::Refusal;
 use encoding::Sizes;
+use rows::LineStart;
 ghost use mathlib.Core.Path.{_≡_};
 ghost use Prim.Native.Nat.{_≤_};
 ghost use lib.ListN.{drop};
@@ -103,39 +103,34 @@ pub fn read_sheet(
     starts[0] = 0;
     while from < sheet.len() {
         let end = rows::line_end(sheet, from);
-        let fault = rows::read_line(sheet, from, end, &mut row);
-        if fault != 0 {
-            return Read::Refused(Refusal {
-                number: fault,
-                line,
-            });
-        }
-        let kind = rows::kind_here(before, row[0]);
-        if kind == 0 {
-            return Read::Refused(Refusal { number: 7, line });
-        }
-        let n = (end - from) / 4;
-        match line_of_kind(
-            kind,
-            &row,
-            n,
-            s,
-            &mut slots,
-            arities,
-            rules,
-            starts,
-            literals,
-            table,
-            index,
-        ) {
-            LineRead::No(q) => {
+        match rows::read_line(sheet, from, end, before, &mut row) {
+            LineStart::No(q) => {
                 return Read::Refused(Refusal { number: q, line });
             }
-            LineRead::Yes(t) => {
-                s = t;
+            LineStart::Kind { kind, filled } => {
+                match line_of_kind(
+                    kind,
+                    &row,
+                    filled,
+                    s,
+                    &mut slots,
+                    arities,
+                    rules,
+                    starts,
+                    literals,
+                    table,
+                    index,
+                ) {
+                    LineRead::No(q) => {
+                        return Read::Refused(Refusal { number: q, line });
+                    }
+                    LineRead::Yes(t) => {
+                        s = t;
+                    }
+                }
+                before = kind;
             }
         }
-        before = kind;
         from = end + 1;
         line += 1;
     }

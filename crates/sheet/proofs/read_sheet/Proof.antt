@@ -3,7 +3,8 @@ use Prim.Native.Nat.{_-_}
 use native.Mathlib.Omega.{arith}
 use lib.ListN.{length}
 use Rattle.encoding.specs.Encoding.{Arrays, arrays}
-use Rattle.sheet.proofs.Sheets.{read-long, read-empty, line-inside, ReadUpTo, reached-start, reached-end, Asks, asks-count, reached-ready, columns-stop, kind-stop, line-stop, reached-next}
+use Rattle.rows.specs.Rows.{startCount}
+use Rattle.sheet.proofs.Sheets.{read-long, read-empty, line-inside, ReadUpTo, reached-start, reached-end, Starts, reached-ready, start-stop, line-stop, reached-next}
 use borrow.Author.Needs.{needs}
 use Rattle.sheet.proofs.read_sheet.Statement.{statement}
 use Rattle.sheet.proofs.read_sheet.Tie as tie
@@ -16,11 +17,11 @@ abbrev μ-loop : tie.MeasureT-loop
 μ-loop sheet arities₀ rules₀ starts₀ literals₀ table₀ index₀ row₀ slots₀ s₀ before₀ from₀ line₀ arities rules starts literals table index row slots s before from line =
     length sheet - from
 
--- the line of a turn, once its columns are read
-asks :
-    (c : tie.After-read-line Inv-loop μ-loop)
-    → Asks (c .before .before .before .before .before .before .before .before .before .before .args .sheet .now) (c .before .before .before .before .loop .from) (c .before .before .line-end .result) (c .read-line .result) (c .read-line .last .1 .1 .1 .0)
-asks c = record { more = c .before .before .before .loop-test .taken; ends = c .before .before .line-end .ensures; asked = c .read-line .ensures }
+-- the line of a turn, once its start is read
+starts : (c : tie.After-read-line Inv-loop μ-loop)
+    → let loop = c .before .before .before .before in
+    Starts (loop .before .before .before .before .before .before .args .sheet .now) (loop .loop .before) (loop .loop .from) (c .before .before .line-end .result) (c .read-line .result) (c .read-line .last .1 .1 .1 .1 .0)
+starts c = record { more = c .before .before .before .loop-test .taken; ends = c .before .before .line-end .ensures; asked = c .read-line .ensures .0 }
 
 -- the arrays as the reader of the line leaves them
 abbrev after : tie.After-line-of-kind Inv-loop μ-loop → Arrays
@@ -48,60 +49,59 @@ line-end-requires c κs = search needs
 read-line-requires : tie.Need-read-line-requires Inv-loop μ-loop
 read-line-requires c κs = line-inside _ _ _ (c .before .before .loop-test .taken) (c .before .line-end .ensures)
 
-returns-3 : tie.Need-returns-3 Inv-loop μ-loop
-returns-3 c = rw (columns-stop (c .before .before .before .before .before .loop .inv) (asks (c .before)) (c .if3 .taken))
-
-array-read-kind-here : tie.Need-array-read-kind-here Inv-loop μ-loop
-array-read-kind-here c = search needs
-
-kind-here-requires : tie.Need-kind-here-requires Inv-loop μ-loop
-kind-here-requires c κs = search needs
-
-returns-4 : tie.Need-returns-4 Inv-loop μ-loop
-returns-4 c =
-    let line = c .before .before .before in
-    rw (kind-stop (line .before .before .before .before .loop .inv) (asks line) (c .before .before .if3 .left) (c .before .kind-here .ensures) (c .if4 .taken))
-
-sub-n : tie.Need-sub-n Inv-loop μ-loop
-sub-n c = search needs
-
-line-of-kind-requires : tie.Need-line-of-kind-requires Inv-loop μ-loop
-line-of-kind-requires c κs =
-    let line = c .before .before .before .before .before .before .before .before .before .before .before in
-    let count = asks-count (asks line) (c .before .before .before .before .before .before .before .before .before .before .if3 .left) in
-    (count .1, reached-ready (line .before .before .before .before .loop .inv))
-
 enum-known-q : tie.Need-enum-known-q Inv-loop μ-loop
 enum-known-q c = search needs
 
-returns-5 : tie.Need-returns-5 Inv-loop μ-loop
-returns-5 c =
+returns-3 : tie.Need-returns-3 Inv-loop μ-loop
+returns-3 c =
+    let line = c .before .before .before in
+    rw (start-stop (line .before .before .before .before .loop .inv) (starts line) (c .before .q .given .1))
+
+enum-known-kind : tie.Need-enum-known-kind Inv-loop μ-loop
+enum-known-kind c = search needs
+
+line-of-kind-requires : tie.Need-line-of-kind-requires Inv-loop μ-loop
+unfolding startCount
+line-of-kind-requires c κs =
+    let found = c .before .before .before .before .before .before .before .before .before in
+    let line = found .before .before in
+    (rw (found .kind .given .1) at (line .read-line .ensures .1), reached-ready (line .before .before .before .before .loop .inv))
+
+enum-known-q-2 : tie.Need-enum-known-q-2 Inv-loop μ-loop
+enum-known-q-2 c = search needs
+
+returns-4 : tie.Need-returns-4 Inv-loop μ-loop
+returns-4 c =
     let told = c .before .before .before in
-    let kind = told .before .before .before .before .before .before .before .before .before .before in
-    let line = kind .before .before in
-    rw (line-stop (line .before .before .before .before .loop .inv) (asks line) (kind .before .if3 .left) (kind .kind-here .ensures) (told .before .before .before .before .before .before .before .before .before .if4 .left) _ (after told) (told .line-of-kind .ensures) (c .before .q .given .1))
+    let found = told .before .before .before .before .before .before .before .before .before .before in
+    let line = found .before .before in
+    rw (line-stop (line .before .before .before .before .loop .inv) (starts line) (found .kind .given .1) _ (after told) (told .line-of-kind .ensures) (c .before .q2 .given .1))
 
 enum-known-t : tie.Need-enum-known-t Inv-loop μ-loop
 enum-known-t c = search needs
 
+-- the line of a turn, once all of it is read
+abbrev line-of : tie.After-known-told4 Inv-loop μ-loop → tie.After-read-line Inv-loop μ-loop
+line-of c = c .before .before .before .before .before .before .before .before .before .before .before .before .before .before .before
+
 add-from : tie.Need-add-from Inv-loop μ-loop
-add-from c = let line = asks (c .before .before .before .before .before .before .before .before .before .before .before .before .before .before .before) in omega (arith, line-inside _ _ _ (line .more) (line .ends))
+add-from c = let line = starts (line-of c) in omega (arith, line-of c .before .before .before .before .loop .inv .short, line-inside _ _ _ (line .more) (line .ends))
 
 add-line : tie.Need-add-line Inv-loop μ-loop
-add-line c = let inv = c .before .before .before .before .before .before .before .before .before .before .before .before .before .before .before .before .before .before .before .loop .inv in omega (arith, inv .short, inv .counted, asks (c .before .before .before .before .before .before .before .before .before .before .before .before .before .before .before) .more)
+add-line c = let inv = line-of c .before .before .before .before .loop .inv in omega (arith, inv .short, inv .counted, starts (line-of c) .more)
 
 loop-less : tie.Need-loop-less Inv-loop μ-loop
-loop-less c = let line = asks (c .before .before .before .before .before .before .before .before .before .before .before .before .before .before .before) in omega (arith, line .more, line-inside _ _ _ (line .more) (line .ends))
+loop-less c = let line = starts (line-of c) in omega (arith, line .more, line-inside _ _ _ (line .more) (line .ends))
 
 loop-again : tie.Need-loop-again Inv-loop μ-loop
 loop-again c =
     let told = c .before .before .before in
-    let kind = told .before .before .before .before .before .before .before .before .before .before in
-    let line = kind .before .before in
-    reached-next (line .before .before .before .before .loop .inv) (asks line) (kind .before .if3 .left) (kind .kind-here .ensures) (told .before .before .before .before .before .before .before .before .before .if4 .left) _ (after told) (told .line-of-kind .ensures) (c .before .t .given .1)
+    let found = told .before .before .before .before .before .before .before .before .before .before in
+    let line = found .before .before in
+    reached-next (line .before .before .before .before .loop .inv) (starts line) (found .kind .given .1) _ (after told) (told .line-of-kind .ensures) (c .before .t .given .1)
 
-returns-6 : tie.Need-returns-6 Inv-loop μ-loop
-returns-6 c = reached-end _ (c .before .loop .inv) (c .loop-test .left)
+returns-5 : tie.Need-returns-5 Inv-loop μ-loop
+returns-5 c = reached-end _ (c .before .loop .inv) (c .loop-test .left)
 
 pub read-sheet-spec : {M : Type 1} → statement M
 read-sheet-spec =
@@ -115,17 +115,15 @@ read-sheet-spec =
     loop-holds
     line-end-requires
     read-line-requires
-    returns-3
-    array-read-kind-here
-    kind-here-requires
-    returns-4
-    sub-n
-    line-of-kind-requires
     enum-known-q
-    returns-5
+    returns-3
+    enum-known-kind
+    line-of-kind-requires
+    enum-known-q-2
+    returns-4
     enum-known-t
     add-from
     add-line
     loop-less
     loop-again
-    returns-6)
+    returns-5)

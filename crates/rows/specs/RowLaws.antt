@@ -13,7 +13,7 @@ use Rattle.definitions.specs.Questions.{yes, _>>=_, _>>_, ask, within, count, k
 use Rattle.theory.specs.Tests.{by-test, apart}
 use Rattle.theory.specs.Limits.{within-between}
 use Rattle.encoding.specs.Signs.{numberOf, numbers}
-use Rattle.sheet.specs.Rows.{lineLength, kindHere, kindAsked}
+use Rattle.rows.specs.Rows.{lineLength, kindHere, rowKind, kindAsked}
 
 -- ── lines ──
 
@@ -53,16 +53,22 @@ unfolding kindAsked
 kindAsked-positive zero ns h = apart (omega arith)
 kindAsked-positive (suc k) ns h = refl
 
-pub kind-here : (before : ℕ) (n : Number) (ns : List Number) → kindOf before (n ∷ ns) ≡ kindAsked (kindHere before n) ns
+kind-first : (before : ℕ) (n : Number) (ns : List Number) → kindOf before (n ∷ ns) ≡ kindAsked (kindHere before n) ns
 unfolding kindOf count kindHere kindAsked ask _>>=_ _>>_
-kind-here zero n ns =
+kind-first zero n ns =
     by-test (within 1 1 n)
     (λ t. let e : n .size ≡ 1 = omega (arith, within-between 1 1 n t) in cc)
     (λ t. cc)
-kind-here (suc before) n ns =
+kind-first (suc before) n ns =
     by-test (within 2 4 n)
     (λ t. let e = kindAsked-positive (n .size) ns (omega (arith, within-between 2 4 n t)) in by-test (leb (suc before) (n .size)) (λ u. cc) (λ u. cc))
     (λ t. cc)
+
+pub kind-of-row : (before : ℕ) (ns : List Number) → kindOf before ns ≡ kindAsked (rowKind before ns) (drop 1 ns)
+unfolding kindOf count rowKind kindAsked _>>=_
+kind-of-row zero [] = refl
+kind-of-row (suc before) [] = refl
+kind-of-row before (n ∷ ns) = unfold rowKind in kind-first before n ns
 
 -- ── rows ──
 

@@ -1,14 +1,16 @@
--- What tests say of a word's number: whether it is in a range, and which kind of line it makes.
+-- What tests say of a word's number, and of a row's: whether it is in a range, and which kind of line it makes.
 use Prim.Native.Nat.{ℕ, zero, suc, _/_, _%_, _<_, _≤_}
 use mathlib.Core.Path.{_≡_, refl}
 use mathlib.Core.Bool.{true, false, _&&_}
+use mathlib.Core.List.{List, [], _∷_}
 use lib.Dec.{leb}
+use lib.ListN.{getD}
 use borrow.Author.Tests.{eq-eqb, ne-eqb, le-leb, lt-leb}
 use Rattle.definitions.specs.Sheet.{Number}
 use Rattle.definitions.specs.Questions.{within}
 use Rattle.theory.specs.Tests.{by-test}
-use Rattle.encoding.specs.Signs.{numberOf}
-use Rattle.sheet.specs.Rows.{kindHere}
+use Rattle.encoding.specs.Signs.{numberOf, numbers}
+use Rattle.rows.specs.Rows.{kindHere, rowKind}
 
 module _ (low high w : ℕ) where
   pub negative-out : w % 2 ≡ 1 → false ≡ within low high (numberOf w)
@@ -55,3 +57,21 @@ module _ (before : ℕ) {x w : ℕ} (e : x ≡ w) (h : before ≡ 0 → ⊥) whe
 
   pub no-later-kind : within 2 4 (numberOf w) ≡ false → 0 ≡ kindHere before (numberOf w)
   no-later-kind t = cc (kind-later before (numberOf w) h)
+
+-- ── by all the numbers of a row ──
+
+pub no-kind : (before : ℕ) (row : List ℕ) {filled : ℕ} → filled ≡ 0 → 0 ≡ rowKind before (numbers filled row)
+unfolding rowKind numbers
+no-kind before row e = rw e
+
+-- a row without words has the number 0 in its first place, which is no kind
+empty-kind : (before : ℕ) → kindHere before (numberOf 0) ≡ 0
+unfolding kindHere within numberOf
+empty-kind zero = refl
+empty-kind (suc before) = refl
+
+pub first-number : (before : ℕ) (row : List ℕ) (filled : ℕ) → (filled ≡ 0 → ⊥) → kindHere before (numberOf (getD row 0 0)) ≡ rowKind before (numbers filled row)
+unfolding rowKind numbers
+first-number before row zero n = absurd (n refl)
+first-number before [] (suc filled) n = empty-kind before
+first-number before (w ∷ row) (suc filled) n = refl

@@ -1,9 +1,9 @@
--- `sheet::rows::kind_here` meets its contract: on the first line, and on a later one. Assumes nothing.
+-- `rows::kind_here` meets its contract: on the first line, and on a later one. Assumes nothing.
 use mathlib.Core.Path.{sym, _∙_}
-use Rattle.sheet.proofs.RowTests.{first-kind, no-first-kind, kind-falls, later-kind, no-later-kind}
+use Rattle.rows.proofs.RowTests.{first-kind, no-first-kind, kind-falls, later-kind, no-later-kind}
 use borrow.Author.Needs.{needs}
-use Rattle.sheet.proofs.rows.kind_here.Statement.{statement}
-use Rattle.sheet.proofs.rows.kind_here.Tie as tie
+use Rattle.rows.proofs.kind_here.Statement.{statement}
+use Rattle.rows.proofs.kind_here.Tie as tie
 
 in-range-requires : tie.Need-in-range-requires
 in-range-requires c κs = search needs

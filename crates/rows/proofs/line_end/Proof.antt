@@ -1,13 +1,13 @@
--- `sheet::rows::line_end` meets its contract: what is left of the line from a place on, added to the place, stays the same. Assumes nothing.
+-- `rows::line_end` meets its contract: what is left of the line from a place on, added to the place, stays the same. Assumes nothing.
 use Prim.Native.Nat.{_+_, _-_, _≤_}
 use mathlib.Core.Path.{_≡_}
 use native.Mathlib.Omega.{arith}
 use lib.ListN.{length, drop}
-use Rattle.sheet.specs.Rows.{lineLength}
-use Rattle.sheet.proofs.RowLoops.{line-here, line-on, line-over}
+use Rattle.rows.specs.Rows.{lineLength}
+use Rattle.rows.proofs.RowLoops.{line-here, line-on, line-over}
 use borrow.Author.Needs.{needs}
-use Rattle.sheet.proofs.rows.line_end.Statement.{statement}
-use Rattle.sheet.proofs.rows.line_end.Tie as tie
+use Rattle.rows.proofs.line_end.Statement.{statement}
+use Rattle.rows.proofs.line_end.Tie as tie
 
 abbrev Inv-loop : tie.InvT-loop
 Inv-loop sheet from at₀ at = (at ≤ length sheet) × (at + lineLength (drop at sheet) ≡ from + lineLength (drop from sheet))

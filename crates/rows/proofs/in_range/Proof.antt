@@ -1,8 +1,8 @@
--- `sheet::rows::in_range` meets its contract, by what its tests say of the number. Assumes nothing.
-use Rattle.sheet.proofs.RowTests.{negative-out, below-out, from-low}
+-- `rows::in_range` meets its contract, by what its tests say of the number. Assumes nothing.
+use Rattle.rows.proofs.RowTests.{negative-out, below-out, from-low}
 use borrow.Author.Needs.{needs}
-use Rattle.sheet.proofs.rows.in_range.Statement.{statement}
-use Rattle.sheet.proofs.rows.in_range.Tie as tie
+use Rattle.rows.proofs.in_range.Statement.{statement}
+use Rattle.rows.proofs.in_range.Tie as tie
 
 wide-requires : tie.Need-wide-requires
 wide-requires c κs = search needs

@@ -1,8 +1,8 @@
--- `sheet::rows::word` meets its contract, by the sign. Assumes nothing.
+-- `rows::word` meets its contract, by the sign. Assumes nothing.
 use Rattle.encoding.specs.Signs.{wordOf}
 use borrow.Author.Needs.{needs}
-use Rattle.sheet.proofs.rows.word.Statement.{statement}
-use Rattle.sheet.proofs.rows.word.Tie as tie
+use Rattle.rows.proofs.word.Statement.{statement}
+use Rattle.rows.proofs.word.Tie as tie
 
 mul-result : tie.Need-mul-result
 mul-result c = search needs
