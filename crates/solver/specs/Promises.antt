@@ -3,30 +3,32 @@
 -- back `call` and `listedPart` and leave `roomAfter` in the room, for all bytes, budgets and rooms, and they require nothing. Here
 -- stands what these three are: demand 1, demand 2 and demand 3. The words are those of document 01, each defined in the crate
 -- `definitions`; what is taken from the theory are proofs. Assumes nothing.
-use Prim.Native.Nat.{ℕ, _≤_}
+use Prim.Native.Nat.{ℕ, _%_, _≤_}
 use mathlib.Core.Path.{_≡_, ap, _∙_}
 use mathlib.Core.Logic.{_⊎_}
-use mathlib.Core.Bool.{false}
+use mathlib.Core.Bool.{true, false}
 use mathlib.Core.List.{List, _++_}
 use lib.ListN.{length, take}
 use Rattle.definitions.specs.Lists.{_∈_}
-use Rattle.definitions.specs.Bounds.{roomBytes, mostAtoms, mostExported, exportBytes}
+use Rattle.definitions.specs.Bounds.{sheetBytes, roomBytes, mostAtoms, mostExported, exportBytes}
 use Rattle.definitions.specs.Words.{Rule, Problem}
 use Rattle.definitions.specs.Instances.{taskOf}
 use Rattle.definitions.specs.Meaning.{Choice, Fails, Assignment, Satisfies}
-use Rattle.definitions.specs.Questions.{Asked, no, yes, connected, accepted, read}
+use Rattle.definitions.specs.Sheet.{Line, nothing, decimal}
+use Rattle.definitions.specs.Questions.{Asked, no, yes, columns, connected, Draft, readLine, accepted, read}
 use Rattle.definitions.specs.Search.{State, done, search}
 use Rattle.definitions.specs.Verdicts.{FirstChoice, SpentWhen, FullWhen}
 use Rattle.definitions.specs.Dimacs.{Cnf, cnfOf, headerLine, cnfText, readCnf, CnfLimits}
-use Rattle.definitions.specs.Call.{call, roomAfter, Comes, FromSearch}
+use Rattle.definitions.specs.Call.{Lending, afterLending, call, roomAfter, Comes, FromSearch}
 use Rattle.definitions.specs.Export.{exportCall, exportText, roomAfterExport, exportAfter, ExportComes}
-use Rattle.definitions.specs.Sheets.{Accepted, Answers, Keeps, HeadAmong, Shares, Apart}
+use Rattle.definitions.specs.Sheets.{Accepted, Answers, Keeps, passes, FilledAlike, blankColumn, isBlank, HeadAmong, Shares, Apart}
 use Rattle.definitions.specs.declared.Verdict.{Verdict}
 use Rattle.definitions.specs.declared.Verdict.the-variants.{Unsat, Unknown, Spent, Full}
 use Rattle.theory.specs.Theorems.{unsat, unknown, spent, full}
 use Rattle.theory.specs.CallLaws.{call-comes, answer-from-search, its-search}
 use Rattle.theory.specs.Demand3.{never-satisfied, never-unknown}
 use Rattle.theory.specs.Connected.{connected-heads, head-apart}
+use Rattle.theory.specs.BlankColumns.{nothing-blank, passed-over, blank-line, same-reading, same-results, same-keeps}
 use Rattle.theory.specs.CnfReads.{cnf-round-trip, cnf-exact}
 use Rattle.theory.specs.CnfRefusals.{cnf-refusals, bad-header, good-header}
 use Rattle.theory.specs.Exports.{export-limits, export-size}
@@ -135,3 +137,30 @@ request-2-bad-header = bad-header
 pub request-2-good-header : (text : List ℕ) → readCnf text ≡ no 22
     → (atoms : ℕ) × (clauses : ℕ) × (rest : List ℕ) × (atoms ≤ mostAtoms) × (clauses ≤ mostExported) × (text ≡ headerLine atoms clauses ++ rest)
 request-2-good-header = good-header
+
+-- 3/14. A blank column is passed over wherever it stands, before the kind too;
+pub request-3 : (front back : List ℕ) → length front % 4 ≡ 0 → columns (front ++ blankColumn ++ back) ≡ columns (front ++ back)
+request-3 = passed-over
+
+-- nothing but blanks is read as nothing;
+pub request-3-blanks : (column : List ℕ) → decimal column ≡ nothing → isBlank column ≡ true
+request-3-blanks = nothing-blank
+
+-- and a line of blanks has no kind: where it passes 4 and 5 it gives 7, whatever was read before.
+pub request-3-blank-line : (d : Draft) (l : Line) → passes l ≡ true → isBlank (l .bytes) ≡ true → readLine d l ≡ no 7
+request-3-blank-line = blank-line
+
+-- Take two sheets whose lines all pass 4 and 5 and have the same filled columns, line by line.
+module _ (first second : List ℕ) (alike : FilledAlike first second) where
+  -- Each keeps the other's constants, symbols, rules and clauses.
+  pub request-3-keeps : Keeps first second
+  request-3-keeps = same-keeps first second alike
+
+  module _ (short : length first ≤ sheetBytes) (fits : length second ≤ sheetBytes) where
+    -- If both pass 2, they are read alike: the same refusal at the same line, or the same problem;
+    pub request-3-alike : read first ≡ read second
+    request-3-alike = same-reading first second alike short fits
+
+    -- and whatever is lent, a call comes to the same for both.
+    pub request-3-calls : (lent : List Lending) (budget : ℕ) → afterLending lent first budget ≡ afterLending lent second budget
+    request-3-calls = same-results first second alike short fits
