@@ -52,11 +52,13 @@ impl InWords for Reading {
     }
 }
 
-/// Bytes as text; those that are no plain text are shown as numbers, and a missing last LF is told.
+/// Bytes as text; those that are no plain text are shown as numbers, as is a blank before an LF, so that it is
+/// seen; and a missing last LF is told.
 pub fn printable(bytes: &[u8]) -> String {
     let mut text = String::new();
-    for &byte in bytes {
+    for (place, &byte) in bytes.iter().enumerate() {
         match byte {
+            b' ' if bytes.get(place + 1) == Some(&b'\n') => text.push_str("<32>"),
             b'\n' | b' '..=b'~' => text.push(byte as char),
             _ => text.push_str(&format!("<{byte}>")),
         }

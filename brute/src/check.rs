@@ -105,6 +105,15 @@ pub fn check(case: &Case) -> Result<Same, Vec<String>> {
     }
 }
 
+/// Does a call of the library tell two cases apart, by what it hands back or by a byte of what is lent?
+pub fn told_apart(one: &Case, other: &Case) -> bool {
+    let exported = |case: &Case| {
+        case.export
+            .map(|length| interface::export_call(case, length))
+    };
+    interface::both_calls(one) != interface::both_calls(other) || exported(one) != exported(other)
+}
+
 /// Both calls against the expected values and the expected front of the room, byte by byte; all other
 /// bytes have to be as they were.
 fn compare(

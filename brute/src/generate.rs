@@ -1,6 +1,8 @@
 //! Random sheets of many shapes, small enough that their meaning can be enumerated, with budgets and
-//! rooms; some of them to be exported. One sheet in four or so is damaged afterwards.
+//! rooms; some of them to be exported. One sheet in three gets blank columns, and one in four or so is
+//! damaged afterwards.
 
+use crate::blanks;
 use crate::case::Case;
 use crate::damage;
 use crate::export::EXPORT;
@@ -10,9 +12,14 @@ use crate::rows::{clause, negated, rule, text, Row};
 
 /// The share of sheets that are exported, in percent: the export searches once more.
 const EXPORTED: usize = 35;
+/// The share of sheets that get blank columns, in percent.
+const BLANKS: usize = 35;
 
 pub fn case(random: &mut Random) -> Case {
     let (mut sheet, limits) = sheet(random);
+    if random.percent(BLANKS) {
+        sheet = blanks::put(random, &sheet);
+    }
     if !limits && random.percent(24) {
         for _ in 0..*random.pick(&[1, 1, 1, 2, 3]) {
             sheet = damage::damaged(random, &sheet);
@@ -653,7 +660,7 @@ fn raw(random: &mut Random) -> Vec<u8> {
             .map(|_| *random.pick(b"  1234-0\n"))
             .collect(),
         _ => {
-            let mut sheet = b"   1   1\n".to_vec();
+            let mut sheet = random.pick(&[&b"   1   1\n"[..], b""]).to_vec();
             sheet.extend(vec![b' '; random.between(1, 150)]);
             if random.percent(50) {
                 sheet.push(b'\n');

@@ -12,6 +12,7 @@ const MARGIN: usize = 64;
 const VALUES: usize = 8;
 
 /// A lent buffer with what it held before.
+#[derive(PartialEq)]
 pub struct Lent<T> {
     before: Vec<T>,
     values: Vec<T>,
@@ -63,6 +64,7 @@ fn places(length: usize) -> Lent<u64> {
 }
 
 /// What the first call hands back.
+#[derive(PartialEq)]
 pub struct Solved {
     pub values: Vec<u64>,
     /// Are the places behind the values as they were?
@@ -71,12 +73,14 @@ pub struct Solved {
 }
 
 /// What the second call hands back.
+#[derive(PartialEq)]
 pub struct Listed {
     pub length: usize,
     pub room: Room,
 }
 
 /// What the export call hands back, and all that was lent to it.
+#[derive(PartialEq)]
 pub struct Exported {
     pub length: usize,
     pub places: Lent<u64>,

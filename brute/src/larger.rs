@@ -1,6 +1,7 @@
 //! Demand 3: a sheet that keeps an UNSAT one's constants, symbols, rules and clauses is never answered
 //! UNKNOWN, at whatever budget, and no assignment satisfies it.
 
+use crate::blanks;
 use crate::case::Case;
 use crate::check::{check, Same};
 use crate::ended::Verdict;
@@ -8,20 +9,23 @@ use crate::generate::{any_style, random_atom, random_clause, random_rule};
 use crate::meaning;
 use crate::random::Random;
 use crate::reader::{self, ROOM};
-use crate::rows::{rows, text, Row};
+use crate::rows::{lines, rows, text, Row};
 
 /// Assignments are enumerated up to so many atoms.
 const ATOMS: usize = 14;
+/// The share of larger sheets with blank columns, in percent.
+const BLANKS: usize = 50;
 
 /// What came of a larger sheet.
 #[derive(Default)]
 pub struct Outcome {
     pub calls: u64,
     pub enumerated: bool,
+    pub other_blanks: bool,
 }
 
-/// A sheet that keeps the given accepted one, with more besides and in another order. Nothing if it
-/// would be refused, at a limit or at a rule that came besides.
+/// A sheet that keeps the given accepted one, with more besides, in another order and often with other blank
+/// columns. Nothing if it would be refused, at a limit or at a rule that came besides.
 pub fn larger(random: &mut Random, sheet: &[u8]) -> Option<Vec<u8>> {
     let first = rows(sheet)?;
     let of_kind = |kind: i32| {
@@ -65,12 +69,21 @@ pub fn larger(random: &mut Random, sheet: &[u8]) -> Option<Vec<u8>> {
     second.extend(style.arities.iter().map(|&arity| vec![2, arity as i32]));
     second.extend(rules);
     second.extend(clauses);
+    let mut second = text(&second);
+    if random.percent(BLANKS) {
+        second = blanks::put(random, &second);
+    }
     assert!(
-        keeps(&first, &second),
+        keeps(&first, &rows(&second)?),
         "the larger sheet does not keep the smaller one"
     );
-    let second = text(&second);
     reader::read(&second, ROOM).is_ok().then_some(second)
+}
+
+/// Is a line kept, but with other blank columns? All behind the first are kept; then one isn't there in its bytes.
+fn other_blanks(first: &[u8], second: &[u8]) -> bool {
+    let (first, second) = (lines(first), lines(second));
+    first[1..].iter().any(|line| !second.contains(line))
 }
 
 fn once(rows: &mut Vec<Row>) {
@@ -83,7 +96,8 @@ fn once(rows: &mut Vec<Row>) {
     *rows = kept;
 }
 
-/// Does the second sheet keep the first one's constants, symbols, rules and clauses?
+/// Does the second sheet keep the first one's constants, symbols, rules and clauses? Of a line only the filled
+/// columns count.
 fn keeps(first: &[Row], second: &[Row]) -> bool {
     let of_kind = |rows: &[Row], kind: i32| {
         rows.iter()
@@ -100,8 +114,15 @@ fn keeps(first: &[Row], second: &[Row]) -> bool {
 }
 
 /// The larger sheet at several budgets, compared as every call is; and by its assignments if they are few.
-pub fn check_larger(random: &mut Random, second: &[u8]) -> Result<Outcome, (Case, Vec<String>)> {
-    let mut outcome = Outcome::default();
+pub fn check_larger(
+    random: &mut Random,
+    first: &[u8],
+    second: &[u8],
+) -> Result<Outcome, (Case, Vec<String>)> {
+    let mut outcome = Outcome {
+        other_blanks: other_blanks(first, second),
+        ..Outcome::default()
+    };
     for budget in [0, 1 + random.below(6) as u32, 1_000_000] {
         let case = Case {
             sheet: second.to_vec(),

@@ -5,6 +5,7 @@
 //! Nothing here is shared with the solver. The last line tells the differences; exit status 1 if there
 //! are any, if a long run never met an answer or a refusal that can come up, or if a call hangs.
 
+mod blanks;
 mod case;
 mod check;
 mod damage;
@@ -16,6 +17,7 @@ mod interface;
 mod larger;
 mod listing;
 mod meaning;
+mod met;
 mod problem;
 mod random;
 mod reader;
@@ -30,7 +32,7 @@ mod told;
 mod vectors;
 mod watch;
 
-use case::{printable, Case, Reading};
+use case::{printable, Case, InWords, Reading};
 use check::Same;
 use ended::Verdict;
 use interface::{THUNYAWORM_EXPORT, THUNYAWORM_ROOM};
@@ -47,6 +49,8 @@ const COUNT: u64 = 90_000;
 /// The share of sheets with which a text comes, in percent; the texts' random numbers have another seed.
 const TEXTS: usize = 50;
 const TEXT_SEED: u64 = 0x7465_7874;
+/// The share of sheets that are called once more with other blank columns, in percent.
+const OTHER_BLANKS: usize = 20;
 /// A run ends at so many differences.
 const ENOUGH: u64 = 3;
 /// A call of the library needs about 1.5 MB of stack.
@@ -134,7 +138,13 @@ fn random_sheets(seed: u64, count: u64) -> bool {
 fn edges() -> Vec<String> {
     watch::from("with too little lent".into());
     let mut reports = Vec::new();
-    let sheets = [b"   1   1\n".to_vec(), Vec::new(), vec![b' '; SHEET + 1]];
+    let sheets = [
+        b"   1   1\n".to_vec(),
+        b"       1       1    \n".to_vec(),
+        b"    \n".to_vec(),
+        Vec::new(),
+        vec![b' '; SHEET + 1],
+    ];
     for sheet in sheets {
         let (room, export) = (THUNYAWORM_ROOM, THUNYAWORM_EXPORT);
         for (room, export) in [
@@ -182,12 +192,15 @@ fn edges() -> Vec<String> {
     reports
 }
 
-/// One random sheet, at its budget and now and then at budgets around the decisions that it took; for an
-/// UNSAT one now and then a larger sheet. An error is a report.
+/// One random sheet, at its budget and now and then at budgets around the decisions that it took, or with
+/// other blank columns; for an UNSAT one now and then a larger sheet. An error is a report.
 fn one_sheet(random: &mut Random, tally: &mut Tally) -> Result<(), String> {
     let case = generate::case(random);
     let same = compared(&case)?;
     tally.count(&case, &same);
+    if random.percent(OTHER_BLANKS) {
+        tally.alike += u64::from(with_other_blanks(random, &case)?);
+    }
     let Same::Ended { ended, .. } = &same else {
         return Ok(());
     };
@@ -203,19 +216,40 @@ fn one_sheet(random: &mut Random, tally: &mut Tally) -> Result<(), String> {
     }
     if ended.verdict == Verdict::Unsat && random.percent(40) {
         if let Some(second) = larger::larger(random, &case.sheet) {
-            let outcome =
-                larger::check_larger(random, &second).map_err(|(case_two, differences)| {
+            let outcome = larger::check_larger(random, &case.sheet, &second).map_err(
+                |(case_two, differences)| {
                     if check::check(&case_two).is_err() {
                         report(&case_two)
                     } else {
                         let smaller = format!("the smaller sheet:\n{}", printable(&case.sheet));
                         smaller + &check::describe(&case_two, &differences)
                     }
-                })?;
+                },
+            )?;
             tally.count_larger(&outcome);
         }
     }
     Ok(())
+}
+
+/// The same call on a sheet with other blank columns, if there is one. An error is a report.
+fn with_other_blanks(random: &mut Random, case: &Case) -> Result<bool, String> {
+    let Some(sheet) = blanks::other(random, &case.sheet) else {
+        return Ok(false);
+    };
+    let other = Case {
+        sheet,
+        ..case.clone()
+    };
+    if !check::told_apart(case, &other) {
+        return Ok(true);
+    }
+    // The second implementation's report is the smaller one, if it sees the difference.
+    compared(&other)?;
+    let (case, other) = (case.in_words(), other.in_words());
+    Err(format!(
+        "{case}told from the one with other blank columns:\n{other}"
+    ))
 }
 
 /// Now and then a random text. An error is a report.

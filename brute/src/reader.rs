@@ -1,5 +1,5 @@
 //! The reader of sheets: questions 1 to 14 of documents 01 and 02, asked in order, with 14 between 12
-//! and 13.
+//! and 13. Blank columns are passed over, so that from 7 on there are filled ones only.
 
 use crate::problem::{Atom, Literal, Pattern, Problem, Rule, Term};
 
@@ -7,6 +7,16 @@ use crate::problem::{Atom, Literal, Pattern, Problem, Rule, Term};
 pub const ROOM: usize = 45_056;
 /// The longest sheet.
 pub const SHEET: usize = 16_384;
+/// The longest line, LF not counted.
+pub const LINE: usize = 136;
+
+/// What the 4 bytes of a column are.
+pub enum Column {
+    Number(i32),
+    /// Blanks alone.
+    Nothing,
+    Fault,
+}
 
 /// The number of the question that was answered no, and the line, from 1; 0 for the call's own questions.
 #[derive(Clone, Copy, PartialEq, Eq, Debug)]
@@ -47,14 +57,13 @@ fn read_line(line: &[u8], kind_before: Option<i32>, problem: &mut Problem) -> Re
     let Some((b'\n', text)) = line.split_last() else {
         return Err(4);
     };
-    if text.len() < 4 || text.len() > 136 || text.len() % 4 != 0 {
+    // Before anything is passed over: a blank column is part of the length.
+    if text.len() < 4 || text.len() > LINE || text.len() % 4 != 0 {
         return Err(5);
     }
-    let mut columns = Vec::with_capacity(text.len() / 4);
-    for bytes in text.chunks(4) {
-        columns.push(column(bytes).ok_or(6u64)?);
-    }
-    let kind = columns[0];
+    let columns = filled(text).ok_or(6u64)?;
+    // A line of blanks has no kind, so none that fits.
+    let kind = *columns.first().ok_or(7u64)?;
     let kind_fits = match kind_before {
         None => kind == 1,
         Some(before) => (2..=4).contains(&kind) && kind >= before,
@@ -71,23 +80,37 @@ fn read_line(line: &[u8], kind_before: Option<i32>, problem: &mut Problem) -> Re
     Ok(kind)
 }
 
+/// The numbers of a line's filled columns, if no column is a fault.
+pub fn filled(text: &[u8]) -> Option<Vec<i32>> {
+    let mut numbers = Vec::with_capacity(text.len() / 4);
+    for bytes in text.chunks(4) {
+        match column(bytes) {
+            Column::Number(number) => numbers.push(number),
+            Column::Nothing => (),
+            Column::Fault => return None,
+        }
+    }
+    Some(numbers)
+}
+
 /// A decimal right-justified with blanks: no leading zero, no plus, no -0.
-pub fn column(bytes: &[u8]) -> Option<i32> {
+pub fn column(bytes: &[u8]) -> Column {
     let blanks = bytes.iter().take_while(|&&byte| byte == b' ').count();
     let (negative, digits) = match &bytes[blanks..] {
+        [] => return Column::Nothing,
         [b'-', digits @ ..] => (true, digits),
         digits => (false, digits),
     };
     if digits.is_empty() || !digits.iter().all(u8::is_ascii_digit) {
-        return None;
+        return Column::Fault;
     }
     if digits[0] == b'0' && (negative || digits.len() > 1) {
-        return None;
+        return Column::Fault;
     }
     let size = digits
         .iter()
         .fold(0, |size, &digit| size * 10 + i32::from(digit - b'0'));
-    Some(if negative { -size } else { size })
+    Column::Number(if negative { -size } else { size })
 }
 
 /// Question 8 of one number: is it there and in range?

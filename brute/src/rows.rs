@@ -1,6 +1,7 @@
-//! A sheet as rows of numbers, the form in which sheets are made, enlarged and made smaller.
+//! A sheet as rows of numbers, the form in which sheets are made, enlarged and made smaller. A row is what
+//! the filled columns of a line hold.
 
-use crate::reader::column;
+use crate::reader::filled;
 
 pub type Row = Vec<i32>;
 
@@ -15,12 +16,20 @@ pub fn text(rows: &[Row]) -> Vec<u8> {
     rows.iter().flat_map(|row| line(row)).collect()
 }
 
-/// The rows of a sheet, if every line is one of columns.
+/// The lines of a sheet or text as they stand, each with its LF; the last may have none.
+pub fn lines(bytes: &[u8]) -> Vec<Vec<u8>> {
+    bytes
+        .split_inclusive(|&byte| byte == b'\n')
+        .map(<[u8]>::to_vec)
+        .collect()
+}
+
+/// The rows of a sheet, without blank columns, if every line is one of columns.
 pub fn rows(sheet: &[u8]) -> Option<Vec<Row>> {
     sheet
         .split_inclusive(|&byte| byte == b'\n')
         .map(|line| match line.split_last() {
-            Some((b'\n', text)) if text.len() % 4 == 0 => text.chunks(4).map(column).collect(),
+            Some((b'\n', text)) if text.len() % 4 == 0 => filled(text),
             _ => None,
         })
         .collect()

@@ -1,12 +1,13 @@
-//! A case that shows a difference is made smaller: without lines, literals, symbols, constants, bytes,
-//! and with a smaller budget, as long as it still shows one. So is a text, without lines and bytes.
+//! A case that shows a difference is made smaller: without lines, blank columns, literals, symbols, constants,
+//! bytes, and with a smaller budget, as long as it still shows one. So is a text, without lines and bytes.
 
+use crate::blanks;
 use crate::case::{Case, Reading};
 use crate::check::check;
 use crate::export::EXPORT;
 use crate::reader::ROOM;
 use crate::reading;
-use crate::rows::{clause, literals, rows, rule, text, Row};
+use crate::rows::{clause, line, lines, literals, rows, rule, Row};
 use std::time::{Duration, Instant};
 
 /// A sheet near the limits of the search may take long; the smallest one so far has to do then.
@@ -74,12 +75,14 @@ fn candidates(case: &Case) -> Vec<Case> {
             });
         }
     }
+    all.extend(without_blanks(&case.sheet).into_iter().map(with_sheet));
     match rows(&case.sheet) {
         Some(rows) if !rows.is_empty() && rows.iter().all(|row| !row.is_empty()) => {
+            let lines = lines(&case.sheet);
             all.extend(
                 simpler_rows(&rows)
                     .iter()
-                    .map(|rows| with_sheet(text(rows))),
+                    .map(|rows| with_sheet(with_blanks_of(&lines, rows))),
             );
         }
         _ => {
@@ -110,10 +113,7 @@ fn smaller_texts(reading: &Reading) -> Vec<Reading> {
 
 /// A text with a first line that counts the lines behind it.
 fn counted(text: &[u8]) -> Vec<u8> {
-    let mut lines: Vec<Vec<u8>> = text
-        .split_inclusive(|&byte| byte == b'\n')
-        .map(<[u8]>::to_vec)
-        .collect();
+    let mut lines = lines(text);
     let count = lines.len().saturating_sub(1);
     if let Some(first) = lines.first_mut() {
         if let Some(blank) = first.iter().rposition(|&byte| byte == b' ') {
@@ -151,6 +151,44 @@ fn without_bytes(bytes: &[u8], part: usize) -> Vec<Vec<u8>> {
         all.push([&bytes[..from], &bytes[to..]].concat());
     }
     all
+}
+
+/// Without all blank columns, then without those of a line, then without each.
+fn without_blanks(sheet: &[u8]) -> Vec<Vec<u8>> {
+    let lines = lines(sheet);
+    let mut bare = lines.clone();
+    bare.iter_mut().for_each(|line| blanks::take(line, || true));
+    let mut all = vec![bare.concat()];
+    let with_line = |index: usize, line: Vec<u8>| {
+        let mut lines = lines.clone();
+        lines[index] = line;
+        lines.concat()
+    };
+    for (index, line) in bare.into_iter().enumerate() {
+        all.push(with_line(index, line));
+    }
+    for (index, line) in lines.iter().enumerate() {
+        for place in blanks::places(line) {
+            let mut line = line.clone();
+            blanks::take_one(&mut line, place);
+            all.push(with_line(index, line));
+        }
+    }
+    all.retain(|shorter| shorter.len() < sheet.len());
+    all
+}
+
+/// Rows as a sheet, each with the blank columns that stood in its line; an empty row is none.
+fn with_blanks_of(lines: &[Vec<u8>], rows: &[Row]) -> Vec<u8> {
+    let mut sheet = Vec::new();
+    for (old, row) in lines.iter().zip(rows).filter(|(_, row)| !row.is_empty()) {
+        let mut line = line(row);
+        for place in blanks::places(old) {
+            blanks::put_one(&mut line, place, usize::MAX);
+        }
+        sheet.extend(line);
+    }
+    sheet
 }
 
 fn simpler_rows(rows: &[Row]) -> Vec<Vec<Row>> {
@@ -214,7 +252,7 @@ fn without_literal(row: &[i32], arities: &[i32]) -> Vec<Row> {
     smaller
 }
 
-/// The sheet without a symbol that no literal uses, the later ones renumbered.
+/// The sheet without a symbol that no literal uses, the later ones renumbered. Its row becomes an empty one.
 fn without_symbol(rows: &[Row], arities: &[i32], symbol: i32) -> Option<Vec<Row>> {
     let mut smaller = Vec::new();
     let mut seen = 0;
@@ -222,9 +260,11 @@ fn without_symbol(rows: &[Row], arities: &[i32], symbol: i32) -> Option<Vec<Row>
         match row[0] {
             2 => {
                 seen += 1;
-                if seen != symbol {
-                    smaller.push(row.clone());
-                }
+                smaller.push(if seen == symbol {
+                    Row::new()
+                } else {
+                    row.clone()
+                });
             }
             3 | 4 => {
                 let mut all = literals(row, arities)?;

@@ -4,6 +4,7 @@ use crate::case::Case;
 use crate::check::Same;
 use crate::export;
 use crate::larger;
+use crate::met::Met;
 use crate::reader::Refusal;
 use crate::reading;
 use crate::search::Events;
@@ -23,8 +24,12 @@ pub struct Tally {
     /// By number; place 0 is not used.
     refusals: [u64; 16],
     events: Events,
+    met: Met,
+    /// Sheets that no call told from one with other blank columns.
+    pub alike: u64,
     larger_sheets: u64,
     larger_calls: u64,
+    larger_other_blanks: u64,
     enumerated: u64,
     exports: u64,
     texts: u64,
@@ -39,6 +44,7 @@ impl Tally {
             Same::TooLarge => self.too_large += 1,
             Same::Refused(refusal) => {
                 self.refusals[refusal.number as usize] += 1;
+                self.met.count_refused(&case.sheet, *refusal);
                 self.count_export(case, Some(*refusal));
             }
             Same::Ended {
@@ -47,6 +53,7 @@ impl Tally {
                 by_meaning,
             } => {
                 self.answers[ended.verdict as usize] += 1;
+                self.met.count_answered(&case.sheet);
                 self.by_meaning += u64::from(*by_meaning);
                 let sum = &mut self.events;
                 sum.backwards += new.backwards;
@@ -86,6 +93,7 @@ impl Tally {
         self.larger_sheets += 1;
         self.larger_calls += outcome.calls;
         self.enumerated += u64::from(outcome.enumerated);
+        self.larger_other_blanks += u64::from(outcome.other_blanks);
     }
 
     fn named(&self) -> Vec<(String, u64)> {
@@ -95,6 +103,8 @@ impl Tally {
             .map(|(name, count)| (name.to_string(), count))
             .collect();
         all.extend((1..16).map(|number| (format!("refusal {number}"), self.refusals[number])));
+        let blanks = self.met.named();
+        all.extend(blanks.map(|(name, count)| (name.to_string(), count)));
         let events = &self.events;
         for (name, count) in [
             (
@@ -112,8 +122,13 @@ impl Tally {
             ("FULL by the log", events.full_log),
             ("created atom unset in the end", events.created_unset),
             ("answer decided by the meaning", self.by_meaning),
+            ("sheet with other blank columns, all the same", self.alike),
             ("larger sheet of an UNSAT one", self.larger_sheets),
             ("larger sheet with all its assignments", self.enumerated),
+            (
+                "larger sheet that keeps a line with other blank columns",
+                self.larger_other_blanks,
+            ),
             ("export", self.exports),
             ("text read", self.read[0]),
             ("text refused with 21", self.read[1]),

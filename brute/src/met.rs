@@ -1,0 +1,81 @@
+//! What request 3 speaks of, and how many calls met it.
+
+use crate::blanks::{places, text, BLANK};
+use crate::reader::{Refusal, LINE};
+use crate::rows::lines;
+
+#[derive(Default)]
+pub struct Met {
+    answered: u64,
+    before: u64,
+    between: u64,
+    behind: u64,
+    full: u64,
+    refused: u64,
+    no_kind: u64,
+    too_long: u64,
+    slipped: u64,
+}
+
+impl Met {
+    pub fn count_answered(&mut self, sheet: &[u8]) {
+        let lines = lines(sheet);
+        let met = |test: fn(&[u8]) -> bool| u64::from(lines.iter().any(|line| test(line)));
+        self.answered += met(has_blank);
+        self.before += met(|line| line.starts_with(BLANK));
+        self.between += met(has_blank_between);
+        self.behind += met(|line| text(line).ends_with(BLANK));
+        self.full += met(|line| text(line).len() == LINE && has_blank(line));
+    }
+
+    pub fn count_refused(&mut self, sheet: &[u8], refusal: Refusal) {
+        let lines = lines(sheet);
+        self.refused += u64::from(lines.iter().any(|line| has_blank(line)));
+        // Line 0 is no line.
+        let Some(index) = (refusal.line as usize).checked_sub(1) else {
+            return;
+        };
+        let (line, text) = (&lines[index], text(&lines[index]));
+        match refusal.number {
+            5 => self.too_long += u64::from(text.len() == LINE + 4 && has_blank(line)),
+            6 => self.slipped += u64::from(text.chunks(4).any(slipped)),
+            7 => self.no_kind += u64::from(4 * places(line).len() == text.len()),
+            _ => (),
+        }
+    }
+
+    pub fn named(&self) -> [(&'static str, u64); 9] {
+        [
+            ("sheet with blank columns answered", self.answered),
+            ("blank column before the kind", self.before),
+            ("blank column between others", self.between),
+            ("blank column behind the last", self.behind),
+            ("line of 136 bytes with blank columns", self.full),
+            ("sheet with blank columns refused", self.refused),
+            ("line of blanks refused with 7", self.no_kind),
+            (
+                "line of 140 bytes with blank columns refused with 5",
+                self.too_long,
+            ),
+            ("blanks out of place refused with 6", self.slipped),
+        ]
+    }
+}
+
+fn has_blank(line: &[u8]) -> bool {
+    !places(line).is_empty()
+}
+
+/// Is a blank column between two that are not?
+fn has_blank_between(line: &[u8]) -> bool {
+    let columns: Vec<&[u8]> = text(line).chunks(4).collect();
+    let filled: Vec<usize> = (0..columns.len())
+        .filter(|&place| columns[place] != BLANK)
+        .collect();
+    filled.windows(2).any(|pair| pair[1] > pair[0] + 1)
+}
+
+/// Does a column that is not blank end with a blank?
+fn slipped(column: &[u8]) -> bool {
+    column != BLANK && column.ends_with(b" ")
+}
