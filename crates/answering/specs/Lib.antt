@@ -1,4 +1,2 @@
 pub mod Solving
 pub mod SolvingLaws
-pub mod Exporting
-pub mod ExportingLaws

@@ -3,7 +3,8 @@
 use Prim.Native.Nat.{ℕ, _≤_}
 use mathlib.Core.Path.{_≡_, refl, sym, ap}
 use mathlib.Core.Option.{Option, none, some}
-use mathlib.Core.List.{List}
+use mathlib.Core.Bool.{true, false}
+use mathlib.Core.List.{List, []}
 use native.Mathlib.Omega.{arith}
 use lib.Dec.{leb}
 use lib.ListN.{length, take, drop, length-append}
@@ -13,13 +14,13 @@ use Rattle.definitions.specs.Bounds.{roomBytes, exportBytes}
 use Rattle.definitions.specs.Questions.{read}
 use Rattle.definitions.specs.Call.{Result, answered, lendings, firstShort, afterLending, result, answerOf, listingOf, written}
 use Rattle.definitions.specs.Export.{exportLendings, exportResult, exportOf, exportCall, exportText, roomAfterExport, exportAfter}
+use Rattle.definitions.specs.declared.Answer.{Answer}
 use Rattle.definitions.specs.declared.Answer.the-variants.{Refused}
-use Rattle.definitions.specs.declared.Exported.{Exported}
 use Rattle.theory.specs.Tests.{by-test}
 use Rattle.theory.specs.CallLaws.{short-room, enough-room, large-room}
 use Rattle.theory.specs.ExportLaws.{short-listing, short-export, refused-text, enough-lent}
-use Rattle.answering.specs.Solving.{SolvedAs}
-use Rattle.answering.specs.Exporting.{ExportedAs}
+use Rattle.answering.specs.Solving.{textOf, SolvedAs}
+use Rattle.answering.specs.SolvingLaws.{no-text}
 use Rattle.answering.specs.declared.Solved.{Solved}
 use Rattle.solver.specs.Lent.{ShortIs}
 
@@ -33,17 +34,20 @@ lent-room room number short none-short =
 module _ (sheet : List ℕ) (budget : ℕ) (room : List ℕ) where
   -- a question about what is lent is answered no, or none is
   pub short-solved : (number : ℕ) → ShortIs (firstShort (lendings (length room))) number → (number ≡ 0 → ⊥)
-      → SolvedAs (result sheet budget room) room (record { answer = Refused (record { number = number; line = 0 }); length = 0 }) room
+      → SolvedAs (result sheet budget room) [] room [] (record { answer = Refused (record { number = number; line = 0 }); length = 0; text = 0 }) room []
   unfolding result afterLending answerOf listingOf written
   short-solved number short some-number = from (firstShort (lendings (length room))) refl short
     where
       from : (o : Option ℕ) → firstShort (lendings (length room)) ≡ o → ShortIs o number
-          → SolvedAs (result sheet budget room) room (record { answer = Refused (record { number = number; line = 0 }); length = 0 }) room
+          → SolvedAs (result sheet budget room) [] room [] (record { answer = Refused (record { number = number; line = 0 }); length = 0; text = 0 }) room []
       from none e h = absurd (some-number h)
-      from (some q) e h = rw (e, result, afterLending, h .0) (record { answer = refl; size = refl; stored = refl })
+      from (some q) e h = rw (e, result, afterLending, h .0) (record { answer = refl; size = refl; stored = refl; sizeText = refl; storedText = refl })
 
-  pub enough-solved : roomBytes ≤ length room → (r : Solved) (after : List ℕ) → SolvedAs (answered (read sheet) budget) room r after → SolvedAs (result sheet budget room) room r after
-  enough-solved large r after h = rw (large-room sheet budget room large) h
+  pub enough-solved : roomBytes ≤ length room → (export : List ℕ) (r : Solved) (after exportLast : List ℕ)
+      → SolvedAs (answered (read sheet) budget) (textOf false (read sheet) (answered (read sheet) budget)) room export r after exportLast
+      → SolvedAs (result sheet budget room) [] room [] r after []
+  unfolding textOf
+  enough-solved large export r after exportLast h = rw (large-room sheet budget room large) (no-text (answered (read sheet) budget) room export [] r after exportLast h)
 
 -- what is written at the front of a room lies in it
 pub written-fits : (bytes room : List ℕ) {n : ℕ} {after : List ℕ} → n ≡ length bytes → after ≡ written bytes room → n ≤ length after
@@ -51,7 +55,7 @@ unfolding written
 written-fits bytes room size stored = omega (arith, size, ap length stored, length-append bytes (drop (length bytes) room))
 
 -- the front of the room that is as long as the listing is the listing
-module _ (came : Result) (room : List ℕ) (r : Solved) (after : List ℕ) (solved : SolvedAs came room r after) where
+module _ (came : Result) (room : List ℕ) (r : Solved) (after : List ℕ) (solved : SolvedAs came [] room [] r after []) where
   pub solved-length : r .length ≤ length after
   solved-length = written-fits (listingOf came) room (solved .size) (solved .stored)
 
@@ -78,29 +82,37 @@ lent-rooms room export number short none-short =
     (λ e. let h = rw (short-listing room export (leb-false roomBytes room e)) at short in absurd (omega (arith, h .0)))
 
 module _ (sheet : List ℕ) (budget : ℕ) (room export : List ℕ) where
+  -- what is handed back and left, by the names that the contract has for it
+  module _ (answer : Answer) (n : ℕ) (roomLast exportLast : List ℕ) where
+    abbrev Meant : Type 0
+    Meant = (answer ≡ exportCall sheet budget room export) × (n ≡ length (exportText sheet budget room export))
+        × (roomLast ≡ roomAfterExport sheet budget room export) × (exportLast ≡ exportAfter sheet budget room export)
+
+    export-meant : (r : Solved) → r .answer ≡ answer → r .text ≡ n
+        → SolvedAs (exportResult sheet budget room export) (exportOf (read sheet) (exportResult sheet budget room export)) room export r roomLast exportLast → Meant
+    unfolding exportCall exportText roomAfterExport exportAfter
+    export-meant r a t h = (rw a at (h .answer), rw t at (h .sizeText), h .stored, h .storedText)
+
   -- a question about what is lent is answered no, or none is
   pub short-exported : (number : ℕ) → ShortIs (firstShort (exportLendings (length room) (length export))) number → (number ≡ 0 → ⊥)
-      → ExportedAs (read sheet) (exportResult sheet budget room export) room export (record { answer = Refused (record { number = number; line = 0 }); length = 0 }) room export
+      → Meant (Refused (record { number = number; line = 0 })) 0 room export
   unfolding exportResult afterLending answerOf listingOf written
   short-exported number short some-number = from (firstShort (exportLendings (length room) (length export))) refl short
     where
-      from : (o : Option ℕ) → firstShort (exportLendings (length room) (length export)) ≡ o → ShortIs o number
-          → ExportedAs (read sheet) (exportResult sheet budget room export) room export (record { answer = Refused (record { number = number; line = 0 }); length = 0 }) room export
+      refusal : Answer
+      refusal = Refused (record { number = number; line = 0 })
+
+      from : (o : Option ℕ) → firstShort (exportLendings (length room) (length export)) ≡ o → ShortIs o number → Meant refusal 0 room export
       from none e h = absurd (some-number h)
       from (some q) e h =
           let none-written = refused-text (read sheet) q 0 in
-          rw (e, exportResult, afterLending, h .0)
-          (record { answer = refl; size = ap length (sym none-written); stored = refl; storedText = ap (λ (x : List ℕ). written x export) (sym none-written) })
+          export-meant refusal 0 room export (record { answer = refusal; length = 0; text = 0 }) refl refl
+          (rw (e, exportResult, afterLending, h .0)
+          (record { answer = refl; size = refl; stored = refl; sizeText = ap length (sym none-written); storedText = ap (λ (x : List ℕ). written x export) (sym none-written) }))
 
-  pub enough-exported : roomBytes ≤ length room → exportBytes ≤ length export → (r : Exported) (roomLast exportLast : List ℕ)
-      → ExportedAs (read sheet) (answered (read sheet) budget) room export r roomLast exportLast
-      → ExportedAs (read sheet) (exportResult sheet budget room export) room export r roomLast exportLast
-  enough-exported large largeExport r roomLast exportLast h = rw (enough-lent sheet budget room export large largeExport) h
-
--- what is handed back and left, by the names that the contract has for it
-module _ (sheet : List ℕ) (budget : ℕ) (room export : List ℕ) (r : Exported) (roomLast exportLast : List ℕ)
-    (exported : ExportedAs (read sheet) (exportResult sheet budget room export) room export r roomLast exportLast) where
-  pub export-meant : (r .answer ≡ exportCall sheet budget room export) × (r .length ≡ length (exportText sheet budget room export))
-      × (roomLast ≡ roomAfterExport sheet budget room export) × (exportLast ≡ exportAfter sheet budget room export)
-  unfolding exportCall exportText roomAfterExport exportAfter
-  export-meant = (exported .answer, exported .size, exported .stored, exported .storedText)
+  pub enough-exported : roomBytes ≤ length room → exportBytes ≤ length export → (r : Solved) (roomLast exportLast : List ℕ)
+      → SolvedAs (answered (read sheet) budget) (textOf true (read sheet) (answered (read sheet) budget)) room export r roomLast exportLast
+      → Meant (r .answer) (r .text) roomLast exportLast
+  unfolding textOf
+  enough-exported large largeExport r roomLast exportLast h =
+      export-meant (r .answer) (r .text) roomLast exportLast r refl refl (rw (enough-lent sheet budget room export large largeExport) h)

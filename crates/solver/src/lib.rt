@@ -3,6 +3,7 @@
 mod lent; // lent.rt: the questions about what is lent
 
 ghost use mathlib.Core.Path.{_≡_};
+ghost use mathlib.Core.List.{[]};
 ghost use lib.ListN.{length};
 ghost use Rattle.definitions.specs.Call.{result, call, listedPart, roomAfter, written, printed};
 ghost use Rattle.definitions.specs.Export.{exportCall, exportText, roomAfterExport, exportAfter, printedCnf};
@@ -23,16 +24,18 @@ pub const SHEET_BUFFER: usize = sheet::SHEET_BYTES + 1;
 
 // Both calls in one: the answer of the first, the length of what the second hands back, the room of either.
 fn solve_both(sheet: &[u8], budget: u32, room: &mut [u8]) -> Solved
-    ensures { λ r. ⌜ SolvedAs (result (now (sheet .entry)) budget (now (room .entry))) (now (room .entry)) r (now (room .exit)) ⌝ }
+    ensures { λ r. ⌜ SolvedAs (result (now (sheet .entry)) budget (now (room .entry))) [] (now (room .entry)) [] r (now (room .exit)) [] ⌝ }
 {
     let number = lent::first_short(room.len());
     if number != 0 {
         return Solved {
             answer: Answer::Refused(Refusal { number, line: 0 }),
             length: 0,
+            text: 0,
         };
     }
-    answering::answered(sheet, budget, room)
+    let mut none = [0u8; 0];
+    answering::answered(sheet, budget, room, &mut none, false)
 }
 
 // The call: hands back the answer with its record, and leaves the listing at the front of the room.
@@ -89,7 +92,12 @@ pub fn export(sheet: &[u8], budget: u32, room: &mut [u8], cnf: &mut [u8]) -> Exp
             length: 0,
         };
     }
-    answering::exporting::exported(sheet, budget, room, cnf)
+    let solved = answering::answered(sheet, budget, room, cnf, true);
+    let answer = solved.answer;
+    Exported {
+        answer,
+        length: solved.text,
+    }
 }
 
 // What the program prints of a sheet for its word `cnf`, at the front of the room: the text, or the line of a refusal. How many bytes
