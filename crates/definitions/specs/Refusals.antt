@@ -256,7 +256,6 @@ sheets =
     record { sheet = text ("   1   1    " ∷ []); question = 0; line = 0 } ∷
     record { sheet = text ("   1       1" ∷ []); question = 0; line = 0 } ∷
     record { sheet = text ("       1   1" ∷ []); question = 0; line = 0 } ∷
-    record { sheet = text (declared ++ ("       3   1       1   2       1    " ∷ "   4   2           1  -2       1" ∷ [])); question = 10; line = 4 } ∷
     record { sheet = text (declared ++ ("       3   1       1   2       1   1" ∷ "   4   2           1  -2       1" ∷ [])); question = 0; line = 0 } ∷
     -- a line of blanks has no kind; behind blanks the kind is the first filled column
     record { sheet = text ("    " ∷ []); question = 7; line = 1 } ∷
@@ -267,6 +266,7 @@ sheets =
     record { sheet = text ("   1   1" ∷ "   2    " ∷ []); question = 8; line = 2 } ∷
     record { sheet = text (declared ++ ("   3   1    " ∷ [])); question = 8; line = 4 } ∷
     record { sheet = text (declared ++ ("   4        " ∷ [])); question = 8; line = 4 } ∷
+    record { sheet = text (declared ++ ("   3   1       1   2       1    " ∷ [])); question = 10; line = 4 } ∷
     record { sheet = text (declared ++ ("   4   1   2    " ∷ [])); question = 10; line = 4 } ∷
     -- blanks are not left over, a number behind them is
     record { sheet = text (declared ++ ("   4   0        " ∷ "   4   1   1    " ∷ [])); question = 0; line = 0 } ∷
