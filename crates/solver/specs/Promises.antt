@@ -28,7 +28,7 @@ use Rattle.theory.specs.Theorems.{unsat, unknown, spent, full}
 use Rattle.theory.specs.CallLaws.{call-comes, answer-from-search, its-search}
 use Rattle.theory.specs.Demand3.{never-satisfied, never-unknown}
 use Rattle.theory.specs.Connected.{connected-heads, head-apart}
-use Rattle.theory.specs.BlankColumns.{nothing-blank, passed-over, blank-line, same-reading, same-results, same-keeps}
+use Rattle.theory.specs.BlankColumns.{nothing-blank, passed-over, blank-line, same-reading, same-accepted, same-results, same-keeps}
 use Rattle.theory.specs.CnfReads.{cnf-round-trip, cnf-exact}
 use Rattle.theory.specs.CnfRefusals.{cnf-refusals, bad-header, good-header}
 use Rattle.theory.specs.Exports.{export-limits, export-size}
@@ -155,6 +155,10 @@ module _ (first second : List ℕ) (alike : FilledAlike first second) where
   -- Each keeps the other's constants, symbols, rules and clauses.
   pub request-3-keeps : Keeps first second
   request-3-keeps = same-keeps first second alike
+
+  -- If one is accepted, so is the other, with the same problem: blanks within the lines never make it too long for 2.
+  pub request-3-accepted : (p : Problem) → read first ≡ accepted p → read second ≡ accepted p
+  request-3-accepted = same-accepted first second alike
 
   module _ (short : length first ≤ sheetBytes) (fits : length second ≤ sheetBytes) where
     -- If both pass 2, they are read alike: the same refusal at the same line, or the same problem;

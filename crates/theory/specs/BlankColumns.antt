@@ -6,16 +6,19 @@ use mathlib.Core.List.{List, [], _∷_, _++_, map, map-map, append-nil}
 use native.Mathlib.Nat.{le-refl}
 use native.Mathlib.Omega.{arith}
 use lib.Dec.{eqb, leb}
-use lib.ListN.{length}
-use borrow.Author.Tests.{eqb-true, le-leb}
+use lib.ListN.{length, length-map}
+use borrow.Author.Tests.{eqb-true, leb-true, le-leb}
 use Rattle.definitions.specs.Lists.{isEmpty, all, filter}
 use Rattle.definitions.specs.Bounds.{sheetBytes, longestLine}
+use Rattle.definitions.specs.Words.{Problem}
 use Rattle.definitions.specs.Sheet.{Line, putByte, lines, nothing, isDigit, digits, natural, signed, decimal}
-use Rattle.definitions.specs.Questions.{Asked, no, yes, _>>=_, _>>_, ask, inFront, columns, count, kindOf, goodLength, columnsAsked, Draft, readLine, readLines, emptyDraft, read}
+use Rattle.definitions.specs.Questions.{Asked, no, yes, _>>=_, _>>_, ask, inFront, columns, count, kindOf, goodLength, columnsAsked, Draft, readLine, accepted, readLines, emptyDraft, read}
 use Rattle.definitions.specs.Call.{Lending, firstShort, afterLending}
 use Rattle.definitions.specs.Sheets.{Row, filled, rowOf, isKind, ofKind, constantsOf, Keeps, passes, FilledAlike, blankColumn, isBlank}
 use Rattle.theory.specs.Tests.{by-test, by-option, apart, and-left, and-right}
 use Rattle.theory.specs.AskedLaws.{by-asked}
+use Rattle.theory.specs.Reading.{line-count}
+use Rattle.theory.specs.Limits.{accepted-limits}
 
 -- ── what is read as nothing ──
 
@@ -88,7 +91,7 @@ pub blank-line : (d : Draft) (l : Line) → passes l ≡ true → isBlank (l .by
 unfolding readLine filled _>>=_
 blank-line d l p e = cc (passed-columns l p, blank-columns (l .bytes) (passed-length l p) e, kind-of-none (d .before))
 
--- ── sheets that are filled alike ──
+-- ── lines that are filled alike ──
 
 alike-lines : (d : Draft) (n : ℕ) (ls ms : List Line) → all passes ls ≡ true → all passes ms ≡ true → map filled ls ≡ map filled ms → readLines d n ls ≡ readLines d n ms
 unfolding all readLines
@@ -121,6 +124,42 @@ empty-lines (b ∷ bs) = some (lines (b ∷ bs)) (some-line b bs)
     some [] n = absurd (n refl)
     some (l ∷ ls) n = refl
 
+-- ── how long a sheet is ──
+
+-- the bytes of some lines, each with LF
+total : List Line → ℕ
+total [] = 0
+total (l ∷ ls) = suc (length (l .bytes)) + total ls
+
+lines-total : (bs : List ℕ) → length bs ≤ total (lines bs)
+unfolding lines total
+lines-total [] = omega arith
+lines-total (b ∷ bs) =
+    let h = lines-total bs in
+    by-test (eqb b 10) (λ t. rw (t, lines) (omega arith)) (λ t. rw (t, lines) (put (lines bs) h))
+  where
+    put : (ls : List Line) → length bs ≤ total ls → suc (length bs) ≤ total (putByte b ls)
+    put [] h = unfold putByte in omega arith
+    put (l ∷ ls) h = unfold putByte in omega arith
+
+passed-total : (ls : List Line) → all passes ls ≡ true → total ls ≤ 137 * length ls
+unfolding total all passes goodLength
+passed-total [] p = omega arith
+passed-total (l ∷ ls) p =
+    let n = length (l .bytes) in
+    let good = and-right (l .ended) _ (and-left (passes l) _ p) in
+    let most = leb-true n longestLine (and-right (leb 4 n) _ (and-left (leb 4 n && leb n longestLine) _ good)) in
+    omega (arith, most, passed-total ls (and-right (passes l) _ p))
+
+passed-bytes : (sheet : List ℕ) → all passes (lines sheet) ≡ true → length sheet ≤ 137 * length (lines sheet)
+passed-bytes sheet p = omega (arith, lines-total sheet, passed-total (lines sheet) p)
+
+accepted-short : (sheet : List ℕ) (p : Problem) → read sheet ≡ accepted p → length sheet ≤ sheetBytes
+unfolding read
+accepted-short sheet p e = by-test (leb (length sheet) sheetBytes) (λ t. leb-true (length sheet) sheetBytes t) (λ t. apart (cc))
+
+-- ── sheets that are filled alike ──
+
 module _ (first second : List ℕ) (alike : FilledAlike first second) where
   -- they are read alike: the same refusal at the same line, or the same problem
   pub same-reading : length first ≤ sheetBytes → length second ≤ sheetBytes → read first ≡ read second
@@ -131,6 +170,15 @@ module _ (first second : List ℕ) (alike : FilledAlike first second) where
       let short = le-leb (length first) sheetBytes h in
       let fits = le-leb (length second) sheetBytes k in
       by-test (isEmpty first) (λ t. cc) (λ t. cc)
+
+  -- an accepted one needs no room for blanks: it has at most 113 lines, of at most 137 bytes with LF
+  pub same-accepted : (p : Problem) → read first ≡ accepted p → read second ≡ accepted p
+  same-accepted p reads =
+      let limits = accepted-limits first p reads in
+      let few = line-count first p reads in
+      let count : length (lines first) ≡ length (lines second) = sym (length-map (lines first) filled) ∙ ap length (alike .same) ∙ length-map (lines second) filled in
+      let fits : length second ≤ sheetBytes = omega (arith, passed-bytes second (alike .secondPasses), limits .symbols, limits .rules, limits .clauses) in
+      sym (same-reading (accepted-short first p reads) fits) ∙ reads
 
   -- and so every call comes to the same, whatever is lent
   pub same-results : length first ≤ sheetBytes → length second ≤ sheetBytes → (ls : List Lending) (budget : ℕ) → afterLending ls first budget ≡ afterLending ls second budget

@@ -1,12 +1,12 @@
 -- What an accepted sheet says, line by line: kinds never fall, so each rule and clause is read against all constants and
 -- symbols of the sheet. Assumes nothing.
-use Prim.Native.Nat.{ℕ, zero, suc, _≤_}
+use Prim.Native.Nat.{ℕ, zero, suc, _+_, _≤_}
 use mathlib.Core.Path.{_≡_, refl, sym, _∙_, ap}
 use mathlib.Core.Bool.{true, false}
 use mathlib.Core.List.{List, [], _∷_, _++_, map, append-nil, append-assoc, Memᴰ·map, Memᴰ·of-map}
 use native.Mathlib.Omega.{arith}
 use lib.Dec.{eqb, leb, ltb}
-use lib.ListN.{length, drop}
+use lib.ListN.{length, drop, length-append}
 use borrow.Author.Tests.{eqb-true, eqb-false, leb-true}
 use Rattle.definitions.specs.Lists.{_∈_, isEmpty, filter, joined}
 use Rattle.definitions.specs.Words.{Rule, Clause, Problem, goalAtoms}
@@ -261,6 +261,40 @@ lines-read d n (l ∷ ls) p e =
     (λ q h. apart (cc))
     (λ f h. rest-row (d .before) (d .problem) (rowOf l) (f .before) (f .problem) (map rowOf ls) p (line-read d l f h) (lines-read f (suc n) ls p (cc)))
 
+-- ── how many lines there are ──
+
+-- a line of kind 2 to 4 adds a symbol, a rule or a clause
+said : Problem → ℕ
+said s = length (s .arities) + length (s .rules) + length (s .clauses)
+
+adds-one : (before : ℕ) (s : Problem) (ns : Row) (k : ℕ) (t : Problem) → Adds before s ns k t → (1 ≤ k) × (1 ≤ before → said t ≡ suc (said s)) × (before ≡ 0 → said t ≡ said s)
+unfolding said withConstants withSymbol withRule withClause
+adds-one before s ns k t (constants b) = (omega arith, (λ l. absurd (omega arith)), (λ z. refl))
+adds-one before s ns k t (symbol b c) = let e = length-append (s .arities) (firstSize ns ∷ []) in (omega arith, (λ l. omega (arith, e)), (λ z. absurd (omega arith)))
+adds-one before s ns k t (rule r h b) = let e = length-append (s .rules) (r ∷ []) in (omega arith, (λ l. omega (arith, e)), (λ z. absurd (omega arith)))
+adds-one before s ns k t (clause c h b) = let e = length-append (s .clauses) (c ∷ []) in (omega arith, (λ l. omega (arith, e)), (λ z. absurd (omega arith)))
+
+later-lines : (d : Draft) (n : ℕ) (ls : List Line) (p : Problem) → readLines d n ls ≡ accepted p → 1 ≤ d .before → length ls + said (d .problem) ≡ said p
+unfolding readLines
+later-lines d n [] p e b = let same : d .problem ≡ p = cc in rw same (omega arith)
+later-lines d n (l ∷ ls) p e b =
+    by-asked (readLine d l)
+    (λ q h. apart (cc))
+    (λ f h.
+    let (kind, one, _) = adds-one _ _ _ _ _ (line-read d l f h .adds) in
+    omega (arith, one b, later-lines f (suc n) ls p (cc) kind))
+
+-- the first line adds none
+all-lines : (d : Draft) (n : ℕ) (ls : List Line) (p : Problem) → readLines d n ls ≡ accepted p → d .before ≡ 0 → length ls + said (d .problem) ≤ suc (said p)
+unfolding readLines
+all-lines d n [] p e z = let same : d .problem ≡ p = cc in rw same (omega arith)
+all-lines d n (l ∷ ls) p e z =
+    by-asked (readLine d l)
+    (λ q h. apart (cc))
+    (λ f h.
+    let (kind, _, none) = adds-one _ _ _ _ _ (line-read d l f h .adds) in
+    omega (arith, none z, later-lines f (suc n) ls p (cc) kind))
+
 -- ── the whole sheet ──
 
 -- what the lines of an accepted sheet say, each rule and clause against all constants and all symbols
@@ -284,6 +318,14 @@ sheet-says sheet p e =
       rules = r .rules .each ∙ ap (map yes) (sym (r .rules .split));
       clauses = r .clauses .each ∙ ap (map yes) (sym (r .clauses .split));
     }))
+    (λ long. apart (cc))
+
+-- an accepted sheet has one line besides those of its symbols, rules and clauses
+pub line-count : (sheet : List ℕ) (p : Problem) → read sheet ≡ accepted p → length (lines sheet) ≤ suc (length (p .arities) + length (p .rules) + length (p .clauses))
+unfolding read emptyDraft said
+line-count sheet p e =
+    by-test (leb (length sheet) 16384)
+    (λ short. by-test (isEmpty sheet) (λ empty. apart (cc)) (λ full. omega (arith, all-lines emptyDraft 1 (lines sheet) p (cc) refl)))
     (λ long. apart (cc))
 
 -- rows that all read as something: each value comes from a row, and each row gives a value
