@@ -8,17 +8,18 @@ use lib.ListN.{length}
 use lib.Seq.{sets}
 use Rattle.definitions.specs.Bounds.{roomBytes, exportBytes}
 use Rattle.definitions.specs.Words.{Problem}
-use Rattle.definitions.specs.Questions.{refused, accepted, read}
+use Rattle.definitions.specs.Questions.{Reading, refused, accepted, read}
 use Rattle.definitions.specs.Search.{State}
 use Rattle.definitions.specs.Listing.{listing}
 use Rattle.definitions.specs.Dimacs.{cnfOf, cnfText}
-use Rattle.definitions.specs.Call.{Result, searched, answered, answerOf, listingOf, written}
+use Rattle.definitions.specs.Call.{Result, refusal, searched, answered, answerOf, listingOf, written}
 use Rattle.definitions.specs.Call as call
 use Rattle.definitions.specs.Export.{exportOf}
 use Rattle.definitions.specs.declared.Verdict.{Verdict}
 use Rattle.definitions.specs.declared.Answer.the-variants.{Refused, Answered}
 use Rattle.theory.specs.Theorems.{listing-at-most}
 use Rattle.theory.specs.Exports.{export-at-most}
+use Rattle.theory.specs.ExportLaws.{refused-text}
 use Rattle.column.specs.Sets.{sets-front}
 use Rattle.machine.specs.Finished.{Finished, AtEnd}
 use Rattle.machine.specs.declared.Ended.{Ended}
@@ -32,6 +33,16 @@ use Rattle.answering.specs.declared.Solved.{Solved}
 pub no-text : (came : Result) (room export other : List ℕ) (r : Solved) (roomLast exportLast : List ℕ) → SolvedAs came [] room export r roomLast exportLast → SolvedAs came [] room other r roomLast other
 unfolding written
 no-text came room export other r roomLast exportLast h = record { answer = h .answer; size = h .size; stored = h .stored; sizeText = h .sizeText; storedText = refl }
+
+-- a refusal writes nothing, and hands back its number and line
+pub refusal-written : (reading : Reading) (q n : ℕ) (wanted : Bool) (room export : List ℕ)
+    → SolvedAs (refusal q n) (textOf wanted reading (refusal q n)) room export (record { answer = Refused (record { number = q; line = n }); length = 0; text = 0 }) room export
+unfolding answerOf listingOf written
+refusal-written reading q n wanted room export = rw (none wanted) (record { answer = refl; size = refl; stored = refl; sizeText = refl; storedText = refl })
+  where
+    none : (w : Bool) → textOf w reading (refusal q n) ≡ []
+    none true = unfold textOf in refused-text reading q n
+    none false = unfold textOf in refl
 
 -- ── what is made of the final arrays ──
 
@@ -89,15 +100,10 @@ module _ (p : Problem) (budget : ℕ) (s : State) (ended : Ended) (given : ℕ) 
 -- ── the sheet ──
 
 module _ (sheet : List ℕ) (budget : ℕ) (room export : List ℕ) (wanted : Bool) where
-  -- a refusal writes nothing
   pub refusal-solved : (q n : ℕ) → read sheet ≡ refused q n
       → SolvedAs (answered (read sheet) budget) (textOf wanted (read sheet) (answered (read sheet) budget)) room export (record { answer = Refused (record { number = q; line = n }); length = 0; text = 0 }) room export
-  unfolding textOf exportOf answered answerOf listingOf written
-  refusal-solved q n e = rw (e, answered) (none-written wanted)
-    where
-      none-written : (w : Bool) → SolvedAs (call.refusal q n) (textOf w (refused q n) (call.refusal q n)) room export (record { answer = Refused (record { number = q; line = n }); length = 0; text = 0 }) room export
-      none-written true = record { answer = refl; size = refl; stored = refl; sizeText = refl; storedText = refl }
-      none-written false = record { answer = refl; size = refl; stored = refl; sizeText = refl; storedText = refl }
+  unfolding answered
+  refusal-solved q n e = rw (e, answered) (refusal-written (refused q n) q n wanted room export)
 
   module _ (p : Problem) (reads : read sheet ≡ accepted p) (ended : Ended) (given : ℕ) (arities starts literals numbers table values : List ℕ)
       (end : AtEnd p budget ended given arities starts literals numbers table values) where

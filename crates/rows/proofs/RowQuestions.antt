@@ -1,18 +1,19 @@
 -- Questions 4 to 7 of a line, as the reader of its start asks them: by the line's place, its length, its columns and its kind.
-use Prim.Native.Nat.{ℕ, zero, suc, _-_, _*_, _/_, _%_, _<_, _≤_}
-use mathlib.Core.Path.{_≡_, refl, _∙_}
-use mathlib.Core.Bool.{true, false, _&&_}
+use Prim.Native.Nat.{ℕ, _-_, _*_, _/_, _%_, _<_, _≤_}
+use mathlib.Core.Path.{_≡_, _∙_}
+use mathlib.Core.Bool.{true, false}
 use mathlib.Core.List.{List}
 use native.Mathlib.Omega.{arith}
 use lib.Dec.{eqb, leb, ltb}
 use lib.ListN.{length, take, drop, length-drop}
 use lib.Seq.{length-take-le}
-use borrow.Author.Tests.{lt-ltb, le-ltb, leb-true, eqb-true, le-leb, lt-leb}
+use borrow.Author.Tests.{lt-ltb, le-ltb, le-leb, lt-leb}
 use Rattle.definitions.specs.Questions.{_>>=_, _>>_, ask, columns, goodLength, columnsAsked}
-use Rattle.theory.specs.Tests.{by-test, and-left, and-right}
+use Rattle.theory.specs.Tests.{by-test}
+use Rattle.theory.specs.AskedLaws.{good-length}
 use Rattle.encoding.specs.Signs.{numbers}
 use Rattle.rows.specs.Rows.{lineAt, rowKind, kindAsked, rowAsked, startOf, startAsked}
-use Rattle.rows.specs.RowLaws.{kind-of-row}
+use Rattle.rows.specs.RowLaws.{kindAsked-positive, kind-of-row}
 use Rattle.rows.specs.declared.RowRead.{RowRead}
 use Rattle.rows.specs.declared.RowRead.the-variants.{Filled, Fault}
 use Rattle.rows.specs.declared.LineStart.the-variants.{No, Kind}
@@ -32,12 +33,9 @@ module _ (n : ℕ) where
   unfolding goodLength
   length-whole l m = cc (le-leb 4 n l, le-leb n 136 m)
 
-  pub good-bounds : goodLength n ≡ true → (4 * (n / 4) ≡ n) × (n ≤ 136)
-  unfolding goodLength
-  good-bounds good =
-      let bounds = and-left (leb 4 n && leb n 136) _ good in
-      let whole = eqb-true (n % 4) 0 (and-right (leb 4 n && leb n 136) _ good) in
-      (omega arith, leb-true n 136 (and-right (leb 4 n) _ bounds))
+  -- such a line is made of columns, at most 34
+  pub good-columns : goodLength n ≡ true → (4 * (n / 4) ≡ n) × (n / 4 ≤ 34)
+  good-columns good = let (_, most, whole) = good-length n good in (omega arith, omega arith)
 
 -- ── the questions of a line, one after the other ──
 
@@ -59,7 +57,7 @@ module _ (s : List ℕ) (from end before : ℕ) (row : List ℕ) (start : from �
   module _ (good : goodLength (end - from) ≡ true) (read : RowRead) (asked : columns (take (4 * ((end - from) / 4)) (drop from s)) ≡ rowAsked read row) where
     good-line : columnsAsked (lineAt s from end) ≡ rowAsked read row
     unfolding columnsAsked ask _>>_
-    good-line = let e = good-bounds (end - from) good .0 in cc (ends, cut-length)
+    good-line = let e = good-columns (end - from) good .0 in cc (ends, cut-length)
 
     pub bad-column : read ≡ Fault → startOf before (lineAt s from end) ≡ startAsked (No 6) row
     unfolding startOf rowAsked startAsked _>>=_
@@ -75,9 +73,5 @@ module _ (s : List ℕ) (from end before : ℕ) (row : List ℕ) (start : from �
       bad-kind z = cc by-kind
 
       pub line-start : (kind ≡ 0 → ⊥) → startOf before (lineAt s from end) ≡ startAsked (Kind kind filled) row
-      unfolding kindAsked startAsked
-      line-start some = by-kind ∙ positive kind some
-        where
-          positive : (k : ℕ) → (k ≡ 0 → ⊥) → kindAsked k (drop 1 (numbers filled row)) ≡ startAsked (Kind k filled) row
-          positive zero n = absurd (n refl)
-          positive (suc k) n = refl
+      unfolding startAsked
+      line-start some = by-kind ∙ kindAsked-positive kind _ (omega arith)

@@ -3,6 +3,7 @@ use Prim.Native.Nat.{ℕ, zero, suc, _/_, _%_, _<_, _≤_}
 use mathlib.Core.Path.{_≡_, refl}
 use mathlib.Core.Bool.{true, false, _&&_}
 use mathlib.Core.List.{List, [], _∷_}
+use native.Mathlib.Omega.{arith}
 use lib.Dec.{leb}
 use lib.ListN.{getD}
 use borrow.Author.Tests.{eq-eqb, ne-eqb, le-leb, lt-leb}
@@ -60,9 +61,9 @@ module _ (before : ℕ) {x w : ℕ} (e : x ≡ w) (h : before ≡ 0 → ⊥) whe
 
 -- ── by all the numbers of a row ──
 
-pub no-kind : (before : ℕ) (row : List ℕ) {filled : ℕ} → filled ≡ 0 → 0 ≡ rowKind before (numbers filled row)
+pub no-kind : (before : ℕ) (row : List ℕ) (filled : ℕ) → filled ≤ 0 → 0 ≡ rowKind before (numbers filled row)
 unfolding rowKind numbers
-no-kind before row e = rw e
+no-kind before row filled h = let e : filled ≡ 0 = omega arith in rw e
 
 -- a row without words has the number 0 in its first place, which is no kind
 empty-kind : (before : ℕ) → kindHere before (numberOf 0) ≡ 0
@@ -70,8 +71,8 @@ unfolding kindHere within numberOf
 empty-kind zero = refl
 empty-kind (suc before) = refl
 
-pub first-number : (before : ℕ) (row : List ℕ) (filled : ℕ) → (filled ≡ 0 → ⊥) → kindHere before (numberOf (getD row 0 0)) ≡ rowKind before (numbers filled row)
+pub first-number : (before : ℕ) (row : List ℕ) (filled : ℕ) → 0 < filled → kindHere before (numberOf (getD row 0 0)) ≡ rowKind before (numbers filled row)
 unfolding rowKind numbers
-first-number before row zero n = absurd (n refl)
-first-number before [] (suc filled) n = empty-kind before
-first-number before (w ∷ row) (suc filled) n = refl
+first-number before row zero h = absurd (omega arith)
+first-number before [] (suc filled) h = empty-kind before
+first-number before (w ∷ row) (suc filled) h = refl

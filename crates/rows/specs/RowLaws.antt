@@ -11,6 +11,7 @@ use lib.Seq.{length-take-le, drop-cons, getD-take, take-suc-set}
 use Rattle.definitions.specs.Sheet.{putByte, lines, Number}
 use Rattle.definitions.specs.Questions.{yes, _>>=_, _>>_, ask, within, count, kindOf}
 use Rattle.theory.specs.Tests.{by-test, apart}
+use Rattle.theory.specs.AskedLaws.{kind-of-none}
 use Rattle.theory.specs.Limits.{within-between}
 use Rattle.encoding.specs.Signs.{numberOf, numbers}
 use Rattle.rows.specs.Rows.{lineLength, kindHere, rowKind, kindAsked}
@@ -48,7 +49,7 @@ lines-unended b (c ∷ bs) h =
 
 -- ── the kind of a line ──
 
-kindAsked-positive : (k : ℕ) (ns : List Number) → 1 ≤ k → kindAsked k ns ≡ yes (record { found = k; left = ns })
+pub kindAsked-positive : (k : ℕ) (ns : List Number) → 1 ≤ k → kindAsked k ns ≡ yes (record { found = k; left = ns })
 unfolding kindAsked
 kindAsked-positive zero ns h = apart (omega arith)
 kindAsked-positive (suc k) ns h = refl
@@ -65,10 +66,9 @@ kind-first (suc before) n ns =
     (λ t. cc)
 
 pub kind-of-row : (before : ℕ) (ns : List Number) → kindOf before ns ≡ kindAsked (rowKind before ns) (drop 1 ns)
-unfolding kindOf count rowKind kindAsked _>>=_
-kind-of-row zero [] = refl
-kind-of-row (suc before) [] = refl
-kind-of-row before (n ∷ ns) = unfold rowKind in kind-first before n ns
+unfolding rowKind kindAsked
+kind-of-row before [] = kind-of-none before
+kind-of-row before (n ∷ ns) = kind-first before n ns
 
 -- ── rows ──
 

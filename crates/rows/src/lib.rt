@@ -128,10 +128,10 @@ fn kind_here(before: usize, word: u16) -> usize
 fn row_kind(before: usize, row: &[u16; COLUMNS], filled: usize) -> usize
     ensures { λ r. ⌜ r ≡ rowKind before (numbers filled (now (row .entry))) ⌝ }
 {
-    if filled == 0 {
-        return 0;
+    if 0 < filled {
+        return kind_here(before, row[0]);
     }
-    kind_here(before, row[0])
+    0
 }
 
 // Questions 4 to 7 of the line that ends here, behind one of kind `before`.

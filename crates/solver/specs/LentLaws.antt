@@ -1,9 +1,9 @@
 -- The questions about what is lent, and then the sheet's: a refusal writes nothing, and where enough is lent the call's result is the
 -- sheet's. What is written lies in its room. Assumes nothing.
 use Prim.Native.Nat.{ℕ, _≤_}
-use mathlib.Core.Path.{_≡_, refl, sym, ap}
+use mathlib.Core.Path.{_≡_, refl, ap}
 use mathlib.Core.Option.{Option, none, some}
-use mathlib.Core.Bool.{true, false}
+use mathlib.Core.Bool.{Bool, true, false}
 use mathlib.Core.List.{List, []}
 use native.Mathlib.Omega.{arith}
 use lib.Dec.{leb}
@@ -12,17 +12,28 @@ use lib.Seq.{take-append-seam}
 use borrow.Author.Tests.{leb-true, leb-false}
 use Rattle.definitions.specs.Bounds.{roomBytes, exportBytes}
 use Rattle.definitions.specs.Questions.{read}
-use Rattle.definitions.specs.Call.{Result, answered, lendings, firstShort, afterLending, result, answerOf, listingOf, written}
+use Rattle.definitions.specs.Call.{Result, answered, Lending, lendings, firstShort, afterLending, result, listingOf, written}
 use Rattle.definitions.specs.Export.{exportLendings, exportResult, exportOf, exportCall, exportText, roomAfterExport, exportAfter}
 use Rattle.definitions.specs.declared.Answer.{Answer}
 use Rattle.definitions.specs.declared.Answer.the-variants.{Refused}
 use Rattle.theory.specs.Tests.{by-test}
 use Rattle.theory.specs.CallLaws.{short-room, enough-room, large-room}
-use Rattle.theory.specs.ExportLaws.{short-listing, short-export, refused-text, enough-lent}
+use Rattle.theory.specs.ExportLaws.{short-listing, short-export, enough-lent}
 use Rattle.answering.specs.Solving.{textOf, SolvedAs}
-use Rattle.answering.specs.SolvingLaws.{no-text}
+use Rattle.answering.specs.SolvingLaws.{no-text, refusal-written}
 use Rattle.answering.specs.declared.Solved.{Solved}
 use Rattle.solver.specs.Lent.{ShortIs}
+
+-- a question about what is lent is answered no: it ends the call, and nothing is written
+short-lent : (sheet : List ℕ) (budget : ℕ) (room export : List ℕ) (wanted : Bool) (ls : List Lending) (number : ℕ) → ShortIs (firstShort ls) number → (number ≡ 0 → ⊥)
+    → SolvedAs (afterLending ls sheet budget) (textOf wanted (read sheet) (afterLending ls sheet budget)) room export (record { answer = Refused (record { number = number; line = 0 }); length = 0; text = 0 }) room export
+unfolding afterLending
+short-lent sheet budget room export wanted ls number short some-number = from (firstShort ls) refl short
+  where
+    from : (o : Option ℕ) → firstShort ls ≡ o → ShortIs o number
+        → SolvedAs (afterLending ls sheet budget) (textOf wanted (read sheet) (afterLending ls sheet budget)) room export (record { answer = Refused (record { number = number; line = 0 }); length = 0; text = 0 }) room export
+    from none e h = absurd (some-number h)
+    from (some q) e h = rw (e, afterLending, h .0) (refusal-written (read sheet) q 0 wanted room export)
 
 -- ── one room ──
 
@@ -35,13 +46,8 @@ module _ (sheet : List ℕ) (budget : ℕ) (room : List ℕ) where
   -- a question about what is lent is answered no, or none is
   pub short-solved : (number : ℕ) → ShortIs (firstShort (lendings (length room))) number → (number ≡ 0 → ⊥)
       → SolvedAs (result sheet budget room) [] room [] (record { answer = Refused (record { number = number; line = 0 }); length = 0; text = 0 }) room []
-  unfolding result afterLending answerOf listingOf written
-  short-solved number short some-number = from (firstShort (lendings (length room))) refl short
-    where
-      from : (o : Option ℕ) → firstShort (lendings (length room)) ≡ o → ShortIs o number
-          → SolvedAs (result sheet budget room) [] room [] (record { answer = Refused (record { number = number; line = 0 }); length = 0; text = 0 }) room []
-      from none e h = absurd (some-number h)
-      from (some q) e h = rw (e, result, afterLending, h .0) (record { answer = refl; size = refl; stored = refl; sizeText = refl; storedText = refl })
+  unfolding result textOf
+  short-solved = short-lent sheet budget room [] false (lendings (length room))
 
   pub enough-solved : roomBytes ≤ length room → (export : List ℕ) (r : Solved) (after exportLast : List ℕ)
       → SolvedAs (answered (read sheet) budget) (textOf false (read sheet) (answered (read sheet) budget)) room export r after exportLast
@@ -96,19 +102,10 @@ module _ (sheet : List ℕ) (budget : ℕ) (room export : List ℕ) where
   -- a question about what is lent is answered no, or none is
   pub short-exported : (number : ℕ) → ShortIs (firstShort (exportLendings (length room) (length export))) number → (number ≡ 0 → ⊥)
       → Meant (Refused (record { number = number; line = 0 })) 0 room export
-  unfolding exportResult afterLending answerOf listingOf written
-  short-exported number short some-number = from (firstShort (exportLendings (length room) (length export))) refl short
-    where
-      refusal : Answer
-      refusal = Refused (record { number = number; line = 0 })
-
-      from : (o : Option ℕ) → firstShort (exportLendings (length room) (length export)) ≡ o → ShortIs o number → Meant refusal 0 room export
-      from none e h = absurd (some-number h)
-      from (some q) e h =
-          let none-written = refused-text (read sheet) q 0 in
-          export-meant refusal 0 room export (record { answer = refusal; length = 0; text = 0 }) refl refl
-          (rw (e, exportResult, afterLending, h .0)
-          (record { answer = refl; size = refl; stored = refl; sizeText = ap length (sym none-written); storedText = ap (λ (x : List ℕ). written x export) (sym none-written) }))
+  unfolding exportResult textOf
+  short-exported number short some-number =
+      export-meant (Refused (record { number = number; line = 0 })) 0 room export _ refl refl
+      (short-lent sheet budget room export true (exportLendings (length room) (length export)) number short some-number)
 
   pub enough-exported : roomBytes ≤ length room → exportBytes ≤ length export → (r : Solved) (roomLast exportLast : List ℕ)
       → SolvedAs (answered (read sheet) budget) (textOf true (read sheet) (answered (read sheet) budget)) room export r roomLast exportLast

@@ -1,15 +1,18 @@
--- What an accepted walk over columns says, and that it accepts the same with more constants and more symbols. Assumes nothing.
-use Prim.Native.Nat.{ℕ, zero, suc, _-_, _≤_, _<_}
+-- What an accepted walk over a sheet, a line and its columns says, and that it accepts the same with more constants and more symbols.
+-- Assumes nothing.
+use Prim.Native.Nat.{ℕ, zero, suc, _-_, _%_, _≤_, _<_}
 use mathlib.Core.Path.{_≡_, refl, ap}
 use mathlib.Core.Bool.{Bool, true, false, not, _&&_}
 use mathlib.Core.List.{List, [], _∷_, _++_}
 use native.Mathlib.Omega.{arith}
 use lib.Dec.{leb}
 use lib.ListN.{length, length-append, getD, List·getD-append}
-use borrow.Author.Tests.{leb-true, le-leb, not-true}
-use Rattle.definitions.specs.Words.{constant, Rule, Clause}
-use Rattle.definitions.specs.Sheet.{Number}
-use Rattle.definitions.specs.Questions.{Asked, no, yes, _>>=_, _>>_, ask, Parsed, within, count, ruleArgument, clauseArgument, arguments, literal, literals, patternOf, literalOf, patterns, clauseLiterals, ruleCounts, ruleBehind, clauseCount, clauseBehind}
+use borrow.Author.Tests.{eqb-true, leb-true, le-leb, not-true}
+use Rattle.definitions.specs.Lists.{isEmpty}
+use Rattle.definitions.specs.Bounds.{sheetBytes, longestLine}
+use Rattle.definitions.specs.Words.{constant, Rule, Clause, Problem}
+use Rattle.definitions.specs.Sheet.{lines, Number}
+use Rattle.definitions.specs.Questions.{Asked, no, yes, _>>=_, _>>_, ask, Parsed, within, count, kindOf, ruleArgument, clauseArgument, arguments, literal, literals, patternOf, literalOf, patterns, clauseLiterals, ruleCounts, ruleBehind, clauseCount, clauseBehind, goodLength, accepted, readLines, emptyDraft, read}
 use Rattle.theory.specs.Tests.{by-test, apart, and-left, and-right, and-intro}
 
 -- ── every question of an accepted chain is answered yes ──
@@ -42,6 +45,29 @@ yes-bind m f a b e h = cc
 pub yes-ask : {A : Type 0} (q : ℕ) (t : Bool) (m : Asked A) (a : A) → t ≡ true → m ≡ yes a → (ask q t >> m) ≡ yes a
 unfolding _>>_ ask
 yes-ask q t m a e h = cc
+
+-- an accepted sheet is not too long and not empty, and its lines are accepted
+pub accepted-read : (sheet : List ℕ) (p : Problem) → read sheet ≡ accepted p
+    → (length sheet ≤ sheetBytes) × (isEmpty sheet ≡ false) × (readLines emptyDraft 1 (lines sheet) ≡ accepted p)
+unfolding read
+accepted-read sheet p e =
+    by-test (leb (length sheet) sheetBytes)
+    (λ short. by-test (isEmpty sheet) (λ empty. apart (cc)) (λ full. (leb-true (length sheet) sheetBytes short, full, (cc))))
+    (λ long. apart (cc))
+
+-- what question 5 says of a length
+pub good-length : (n : ℕ) → goodLength n ≡ true → (4 ≤ n) × (n ≤ longestLine) × (n % 4 ≡ 0)
+unfolding goodLength
+good-length n good =
+    let between = and-left (leb 4 n && leb n longestLine) _ good in
+    let whole = and-right (leb 4 n && leb n longestLine) _ good in
+    (leb-true 4 n (and-left (leb 4 n) _ between), leb-true n longestLine (and-right (leb 4 n) _ between), eqb-true (n % 4) 0 whole)
+
+-- no column is no kind
+pub kind-of-none : (before : ℕ) → kindOf before [] ≡ no 7
+unfolding kindOf count _>>=_
+kind-of-none zero = refl
+kind-of-none (suc before) = refl
 
 -- ── a column that holds a count ──
 

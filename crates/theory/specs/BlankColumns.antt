@@ -1,5 +1,5 @@
 -- Document 02, 3/14: blank columns change nothing but questions 2 and 5, and a line of blanks has no kind. Assumes nothing.
-use Prim.Native.Nat.{ℕ, zero, suc, _%_, _*_, _+_, _-_, _≤_}
+use Prim.Native.Nat.{ℕ, suc, _%_, _*_, _+_, _-_, _≤_}
 use mathlib.Core.Path.{_≡_, refl, sym, ap, _∙_}
 use mathlib.Core.Bool.{Bool, true, false, _&&_}
 use mathlib.Core.List.{List, [], _∷_, _++_, map, map-map, append-nil}
@@ -7,18 +7,18 @@ use native.Mathlib.Nat.{le-refl}
 use native.Mathlib.Omega.{arith}
 use lib.Dec.{eqb, leb}
 use lib.ListN.{length, length-map}
-use borrow.Author.Tests.{eqb-true, leb-true, le-leb}
+use borrow.Author.Tests.{eqb-true, le-leb}
 use Rattle.definitions.specs.Lists.{isEmpty, all, filter}
 use Rattle.definitions.specs.Bounds.{sheetBytes, longestLine}
 use Rattle.definitions.specs.Words.{Problem}
 use Rattle.definitions.specs.Sheet.{Line, putByte, lines, nothing, isDigit, digits, natural, signed, decimal}
-use Rattle.definitions.specs.Questions.{Asked, no, yes, _>>=_, _>>_, ask, inFront, columns, count, kindOf, goodLength, columnsAsked, Draft, readLine, accepted, readLines, emptyDraft, read}
+use Rattle.definitions.specs.Questions.{Asked, no, yes, _>>=_, _>>_, ask, inFront, columns, count, columnsAsked, Draft, readLine, accepted, readLines, emptyDraft, read}
 use Rattle.definitions.specs.Call.{Lending, firstShort, afterLending}
 use Rattle.definitions.specs.Sheets.{Row, filled, rowOf, isKind, ofKind, constantsOf, Keeps, passes, FilledAlike, blankColumn, isBlank}
 use Rattle.theory.specs.Tests.{by-test, by-option, apart, and-left, and-right}
-use Rattle.theory.specs.AskedLaws.{by-asked}
+use Rattle.theory.specs.AskedLaws.{by-asked, accepted-read, good-length, kind-of-none}
 use Rattle.theory.specs.Reading.{line-count}
-use Rattle.theory.specs.Limits.{accepted-limits}
+use Rattle.theory.specs.Limits.{some-line, accepted-limits}
 
 -- ── what is read as nothing ──
 
@@ -69,31 +69,31 @@ blank-columns (a ∷ b ∷ c ∷ d ∷ bs) h e =
     let e₂ = and-right (eqb b 32) _ e₁ in
     let e₃ = and-right (eqb c 32) _ e₂ in
     let rest = blank-columns bs (omega arith) (and-right (eqb d 32) _ e₃) in
-    rw (eqb-true a 32 (and-left (eqb a 32) _ e), eqb-true b 32 (and-left (eqb b 32) _ e₁), eqb-true c 32 (and-left (eqb c 32) _ e₂), eqb-true d 32 (and-left (eqb d 32) _ e₃)) rest
+    rw (
+      eqb-true a 32 (and-left (eqb a 32) _ e),
+      eqb-true b 32 (and-left (eqb b 32) _ e₁),
+      eqb-true c 32 (and-left (eqb c 32) _ e₂),
+      eqb-true d 32 (and-left (eqb d 32) _ e₃),
+    )
+    rest
 
 -- what 4 to 6 say of a line that passes 4 and 5
 passed-columns : (l : Line) → passes l ≡ true → columnsAsked l ≡ filled l
 unfolding passes filled columnsAsked ask _>>_
 passed-columns l p = cc (and-left (l .ended) _ p, and-right (l .ended) _ p)
 
-passed-length : (l : Line) → passes l ≡ true → length (l .bytes) % 4 ≡ 0
-unfolding passes goodLength
-passed-length l p =
-    let n = length (l .bytes) in
-    eqb-true (n % 4) 0 (and-right (leb 4 n && leb n longestLine) _ (and-right (l .ended) _ p))
-
-kind-of-none : (before : ℕ) → kindOf before [] ≡ no 7
-unfolding kindOf count _>>=_
-kind-of-none zero = refl
-kind-of-none (suc before) = refl
+passed-length : (l : Line) → passes l ≡ true → (length (l .bytes) ≤ longestLine) × (length (l .bytes) % 4 ≡ 0)
+unfolding passes
+passed-length l p = let good = good-length (length (l .bytes)) (and-right (l .ended) _ p) in (good .1, good .2)
 
 pub blank-line : (d : Draft) (l : Line) → passes l ≡ true → isBlank (l .bytes) ≡ true → readLine d l ≡ no 7
 unfolding readLine filled _>>=_
-blank-line d l p e = cc (passed-columns l p, blank-columns (l .bytes) (passed-length l p) e, kind-of-none (d .before))
+blank-line d l p e = cc (passed-columns l p, blank-columns (l .bytes) (passed-length l p .1) e, kind-of-none (d .before))
 
 -- ── lines that are filled alike ──
 
-alike-lines : (d : Draft) (n : ℕ) (ls ms : List Line) → all passes ls ≡ true → all passes ms ≡ true → map filled ls ≡ map filled ms → readLines d n ls ≡ readLines d n ms
+alike-lines : (d : Draft) (n : ℕ) (ls ms : List Line) → all passes ls ≡ true → all passes ms ≡ true → map filled ls ≡ map filled ms
+    → readLines d n ls ≡ readLines d n ms
 unfolding all readLines
 alike-lines d n [] [] p q e = refl
 alike-lines d n [] (m ∷ ms) p q e = apart (cc)
@@ -106,23 +106,15 @@ alike-lines d n (l ∷ ls) (m ∷ ms) p q e =
     line : readLine d l ≡ readLine d m
     line = unfold readLine in cc (passed-columns l (and-left (passes l) _ p), passed-columns m (and-left (passes m) _ q))
 
--- bytes make a line
-some-line : (b : ℕ) (bs : List ℕ) → lines (b ∷ bs) ≡ [] → ⊥
-unfolding lines
-some-line b bs e = by-test (eqb b 10) (λ t. apart (cc)) (λ t. some (lines bs) (cc))
-  where
-    some : (ls : List Line) → putByte b ls ≡ [] → ⊥
-    some [] f = unfold putByte in apart (cc)
-    some (l ∷ ls) f = unfold putByte in apart (cc)
+filled-empty : (ls : List Line) → isEmpty (map filled ls) ≡ isEmpty ls
+unfolding isEmpty
+filled-empty [] = refl
+filled-empty (l ∷ ls) = refl
 
 empty-lines : (sheet : List ℕ) → isEmpty (map filled (lines sheet)) ≡ isEmpty sheet
 unfolding isEmpty lines
 empty-lines [] = refl
-empty-lines (b ∷ bs) = some (lines (b ∷ bs)) (some-line b bs)
-  where
-    some : (ls : List Line) → (ls ≡ [] → ⊥) → isEmpty (map filled ls) ≡ false
-    some [] n = absurd (n refl)
-    some (l ∷ ls) n = refl
+empty-lines (b ∷ bs) = filled-empty (lines (b ∷ bs)) ∙ some-line (b ∷ bs) refl
 
 -- ── how long a sheet is ──
 
@@ -143,20 +135,12 @@ lines-total (b ∷ bs) =
     put (l ∷ ls) h = unfold putByte in omega arith
 
 passed-total : (ls : List Line) → all passes ls ≡ true → total ls ≤ 137 * length ls
-unfolding total all passes goodLength
+unfolding total all
 passed-total [] p = omega arith
-passed-total (l ∷ ls) p =
-    let n = length (l .bytes) in
-    let good = and-right (l .ended) _ (and-left (passes l) _ p) in
-    let most = leb-true n longestLine (and-right (leb 4 n) _ (and-left (leb 4 n && leb n longestLine) _ good)) in
-    omega (arith, most, passed-total ls (and-right (passes l) _ p))
+passed-total (l ∷ ls) p = omega (arith, passed-length l (and-left (passes l) _ p) .0, passed-total ls (and-right (passes l) _ p))
 
 passed-bytes : (sheet : List ℕ) → all passes (lines sheet) ≡ true → length sheet ≤ 137 * length (lines sheet)
 passed-bytes sheet p = omega (arith, lines-total sheet, passed-total (lines sheet) p)
-
-accepted-short : (sheet : List ℕ) (p : Problem) → read sheet ≡ accepted p → length sheet ≤ sheetBytes
-unfolding read
-accepted-short sheet p e = by-test (leb (length sheet) sheetBytes) (λ t. leb-true (length sheet) sheetBytes t) (λ t. apart (cc))
 
 -- ── sheets that are filled alike ──
 
@@ -176,12 +160,14 @@ module _ (first second : List ℕ) (alike : FilledAlike first second) where
   same-accepted p reads =
       let limits = accepted-limits first p reads in
       let few = line-count first p reads in
-      let count : length (lines first) ≡ length (lines second) = sym (length-map (lines first) filled) ∙ ap length (alike .same) ∙ length-map (lines second) filled in
+      let count : length (lines first) ≡ length (lines second) =
+      sym (length-map (lines first) filled) ∙ ap length (alike .same) ∙ length-map (lines second) filled in
       let fits : length second ≤ sheetBytes = omega (arith, passed-bytes second (alike .secondPasses), limits .symbols, limits .rules, limits .clauses) in
-      sym (same-reading (accepted-short first p reads) fits) ∙ reads
+      sym (same-reading (accepted-read first p reads .0) fits) ∙ reads
 
   -- and so every call comes to the same, whatever is lent
-  pub same-results : length first ≤ sheetBytes → length second ≤ sheetBytes → (ls : List Lending) (budget : ℕ) → afterLending ls first budget ≡ afterLending ls second budget
+  pub same-results : length first ≤ sheetBytes → length second ≤ sheetBytes → (ls : List Lending) (budget : ℕ)
+      → afterLending ls first budget ≡ afterLending ls second budget
   unfolding afterLending
   same-results h k ls budget = let alike-read = same-reading h k in by-option (firstShort ls) (λ t. cc) (λ q t. cc)
 

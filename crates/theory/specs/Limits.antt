@@ -15,7 +15,7 @@ use Rattle.definitions.specs.Sheet.{Line, putByte, lines, Number}
 use Rattle.definitions.specs.Questions.{Asked, no, yes, _>>=_, _>>_, ask, Parsed, within, count, kindOf, ruleArgument, clauseArgument, arguments, literal, literals, patternOf, literalOf, patterns, clauseLiterals, restricted, connected, constantsAsked, arityAsked, ruleCounts, ruleBehind, ruleAsked, clauseCount, clauseBehind, clauseAsked, withConstants, withSymbol, withRule, withClause, constantsLine, symbolLine, ruleLine, clauseLine, lineOfKind, columnsAsked, Draft, readLine, accepted, readLines, emptyDraft, read}
 use Rattle.theory.specs.Tests.{by-test, apart, and-left, and-right}
 use Rattle.theory.specs.TableLaws.{enterAll, enter-known, atomsOf, goal-atoms-more}
-use Rattle.theory.specs.AskedLaws.{by-asked}
+use Rattle.theory.specs.AskedLaws.{by-asked, accepted-read}
 use Rattle.theory.specs.ListLaws.{Each, each-nil, each-cons, each-append, joined-length}
 
 -- ── the limits ──
@@ -485,14 +485,10 @@ put-some b [] = refl
 put-some b (l ∷ ls) = refl
 
 -- at least one byte, so at least one line
-some-line : (sheet : List ℕ) → isEmpty sheet ≡ false → isEmpty (lines sheet) ≡ false
+pub some-line : (sheet : List ℕ) → isEmpty sheet ≡ false → isEmpty (lines sheet) ≡ false
 unfolding isEmpty lines
 some-line [] s = apart (cc)
 some-line (b ∷ bs) s = by-test (eqb b 10) (λ e. cc) (λ e. cc (put-some b (lines bs)))
 
 pub accepted-limits : (sheet : List ℕ) (p : Problem) → read sheet ≡ accepted p → Limits p
-unfolding read
-accepted-limits sheet p e =
-    by-test (leb (length sheet) 16384)
-    (λ f. by-test (isEmpty sheet) (λ g. apart (cc)) (λ g. all-lines (lines sheet) p (some-line sheet g) (cc)))
-    (λ f. apart (cc))
+accepted-limits sheet p e = let (_, full, all) = accepted-read sheet p e in all-lines (lines sheet) p (some-line sheet full) all

@@ -15,7 +15,7 @@ use Rattle.definitions.specs.Questions.{Asked, yes, Parsed, count, kindOf, cons
 use Rattle.definitions.specs.Sheets.{Row, filled, rowOf, isKind, ofKind, firstSize, constantsOf}
 use Rattle.theory.specs.Tests.{by-test, apart}
 use Rattle.theory.specs.ListLaws.{in-along}
-use Rattle.theory.specs.AskedLaws.{yes-injective, by-asked, bind-yes, ask-yes, yes-bind, count-yes, readRule, readClause}
+use Rattle.theory.specs.AskedLaws.{yes-injective, by-asked, accepted-read, bind-yes, ask-yes, yes-bind, count-yes, readRule, readClause}
 
 -- ── a line of each kind, from its columns behind the kind ──
 
@@ -267,33 +267,34 @@ lines-read d n (l ∷ ls) p e =
 said : Problem → ℕ
 said s = length (s .arities) + length (s .rules) + length (s .clauses)
 
-adds-one : (before : ℕ) (s : Problem) (ns : Row) (k : ℕ) (t : Problem) → Adds before s ns k t → (1 ≤ k) × (1 ≤ before → said t ≡ suc (said s)) × (before ≡ 0 → said t ≡ said s)
+adds-one : (before : ℕ) (s : Problem) (ns : Row) (k : ℕ) (t : Problem) → Adds before s ns k t
+    → (1 ≤ k) × (1 ≤ before → said t ≡ suc (said s)) × (before ≡ 0 → said t ≡ said s)
 unfolding said withConstants withSymbol withRule withClause
 adds-one before s ns k t (constants b) = (omega arith, (λ l. absurd (omega arith)), (λ z. refl))
 adds-one before s ns k t (symbol b c) = let e = length-append (s .arities) (firstSize ns ∷ []) in (omega arith, (λ l. omega (arith, e)), (λ z. absurd (omega arith)))
 adds-one before s ns k t (rule r h b) = let e = length-append (s .rules) (r ∷ []) in (omega arith, (λ l. omega (arith, e)), (λ z. absurd (omega arith)))
 adds-one before s ns k t (clause c h b) = let e = length-append (s .clauses) (c ∷ []) in (omega arith, (λ l. omega (arith, e)), (λ z. absurd (omega arith)))
 
-later-lines : (d : Draft) (n : ℕ) (ls : List Line) (p : Problem) → readLines d n ls ≡ accepted p → 1 ≤ d .before → length ls + said (d .problem) ≡ said p
+later-counted : (d : Draft) (n : ℕ) (ls : List Line) (p : Problem) → readLines d n ls ≡ accepted p → 1 ≤ d .before → length ls + said (d .problem) ≡ said p
 unfolding readLines
-later-lines d n [] p e b = let same : d .problem ≡ p = cc in rw same (omega arith)
-later-lines d n (l ∷ ls) p e b =
+later-counted d n [] p e b = let same : d .problem ≡ p = cc in rw same (omega arith)
+later-counted d n (l ∷ ls) p e b =
     by-asked (readLine d l)
     (λ q h. apart (cc))
     (λ f h.
     let (kind, one, _) = adds-one _ _ _ _ _ (line-read d l f h .adds) in
-    omega (arith, one b, later-lines f (suc n) ls p (cc) kind))
+    omega (arith, one b, later-counted f (suc n) ls p (cc) kind))
 
 -- the first line adds none
-all-lines : (d : Draft) (n : ℕ) (ls : List Line) (p : Problem) → readLines d n ls ≡ accepted p → d .before ≡ 0 → length ls + said (d .problem) ≤ suc (said p)
+all-counted : (d : Draft) (n : ℕ) (ls : List Line) (p : Problem) → readLines d n ls ≡ accepted p → d .before ≡ 0 → length ls + said (d .problem) ≤ suc (said p)
 unfolding readLines
-all-lines d n [] p e z = let same : d .problem ≡ p = cc in rw same (omega arith)
-all-lines d n (l ∷ ls) p e z =
+all-counted d n [] p e z = let same : d .problem ≡ p = cc in rw same (omega arith)
+all-counted d n (l ∷ ls) p e z =
     by-asked (readLine d l)
     (λ q h. apart (cc))
     (λ f h.
     let (kind, _, none) = adds-one _ _ _ _ _ (line-read d l f h .adds) in
-    omega (arith, none z, later-lines f (suc n) ls p (cc) kind))
+    omega (arith, none z, later-counted f (suc n) ls p (cc) kind))
 
 -- ── the whole sheet ──
 
@@ -305,28 +306,21 @@ pub record Says (sheet : List ℕ) (p : Problem) : Type 0 where
   pub clauses : map (λ (r : Row). readClause (p .constants) (p .arities) (drop 1 r)) (ofKind 4 sheet) ≡ map yes (p .clauses)
 
 pub sheet-says : (sheet : List ℕ) (p : Problem) → read sheet ≡ accepted p → Says sheet p
-unfolding read emptyDraft constantsOf ofKind
+unfolding emptyDraft constantsOf ofKind
 sheet-says sheet p e =
-    by-test (leb (length sheet) 16384)
-    (λ short. by-test (isEmpty sheet)
-    (λ empty. apart (cc))
-    (λ full.
-    let r = lines-read emptyDraft 1 (lines sheet) p (cc) in
+    let r = lines-read emptyDraft 1 (lines sheet) p (accepted-read sheet p e .2) in
     record {
       constants = r .first refl refl;
       arities = r .arities;
       rules = r .rules .each ∙ ap (map yes) (sym (r .rules .split));
       clauses = r .clauses .each ∙ ap (map yes) (sym (r .clauses .split));
-    }))
-    (λ long. apart (cc))
+    }
 
 -- an accepted sheet has one line besides those of its symbols, rules and clauses
-pub line-count : (sheet : List ℕ) (p : Problem) → read sheet ≡ accepted p → length (lines sheet) ≤ suc (length (p .arities) + length (p .rules) + length (p .clauses))
-unfolding read emptyDraft said
-line-count sheet p e =
-    by-test (leb (length sheet) 16384)
-    (λ short. by-test (isEmpty sheet) (λ empty. apart (cc)) (λ full. omega (arith, all-lines emptyDraft 1 (lines sheet) p (cc) refl)))
-    (λ long. apart (cc))
+pub line-count : (sheet : List ℕ) (p : Problem) → read sheet ≡ accepted p
+    → length (lines sheet) ≤ suc (length (p .arities) + length (p .rules) + length (p .clauses))
+unfolding emptyDraft said
+line-count sheet p e = omega (arith, all-counted emptyDraft 1 (lines sheet) p (accepted-read sheet p e .2) refl)
 
 -- rows that all read as something: each value comes from a row, and each row gives a value
 module _ {A : Type 0} (reads : Row → Asked A) (rows : List Row) (values : List A) (each : map reads rows ≡ map yes values) where

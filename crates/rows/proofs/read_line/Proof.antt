@@ -6,7 +6,7 @@ use native.Mathlib.Omega.{arith}
 use borrow.Author.Tests.{not-true, not-false}
 use Rattle.definitions.specs.Questions.{goodLength}
 use Rattle.rows.specs.Rows.{rowCount, startCount}
-use Rattle.rows.proofs.RowQuestions.{good-bounds, no-end, bad-length, bad-column, bad-kind, line-start}
+use Rattle.rows.proofs.RowQuestions.{good-columns, no-end, bad-length, bad-column, bad-kind, line-start}
 use borrow.Author.Needs.{needs}
 use Rattle.rows.proofs.read_line.Statement.{statement}
 use Rattle.rows.proofs.read_line.Tie as tie
@@ -34,7 +34,7 @@ is-good c = sym (c .before .is-good-length .ensures) ∙ not-false _ (c .if2 .le
 read-row-requires : tie.Need-read-row-requires
 read-row-requires c κs =
     let start = c .before .before .before .before .before in
-    let good = good-bounds _ (is-good (c .before)) in
+    let good = good-columns _ (is-good (c .before)) in
     omega (arith, start .pre .0, start .pre .1, good .0, good .1)
 
 enum-told : tie.Need-enum-told
