@@ -20,6 +20,7 @@ use Rattle.definitions.specs.declared.Answer.the-variants.{Refused, Answered}
 use Rattle.theory.specs.Theorems.{listing-at-most}
 use Rattle.theory.specs.Exports.{export-at-most}
 use Rattle.theory.specs.ExportLaws.{refused-text}
+use Rattle.encoding.specs.Values.{Values}
 use Rattle.column.specs.Sets.{sets-front}
 use Rattle.machine.specs.Finished.{Finished, AtEnd}
 use Rattle.machine.specs.declared.Ended.{Ended}
@@ -51,7 +52,7 @@ same-counts : (v : Verdict) {a b l m d e c f : ℕ} → a ≡ b → l ≡ m → 
     → Answered (record { verdict = v; atoms = a; logged = l; decisions = d; conflicts = c }) ≡ Answered (record { verdict = v; atoms = b; logged = m; decisions = e; conflicts = f })
 same-counts v p q r s = cc
 
-module _ (p : Problem) (budget : ℕ) (s : State) (ended : Ended) (given : ℕ) (arities starts literals numbers table values : List ℕ)
+module _ (p : Problem) (budget : ℕ) (s : State) (ended : Ended) (given : ℕ) (arities starts literals numbers table : List ℕ) (values : Values)
     (finished : Finished p budget s ended given arities starts literals numbers table values) where
   -- the answer with its counts, and the listing in the room
   pub listed-solved : (room : List ℕ) → length (listing (ended .verdict) s) ≤ length room → (n : ℕ) (after : List ℕ) → Put room 0 (listing (ended .verdict) s) n after
@@ -105,7 +106,7 @@ module _ (sheet : List ℕ) (budget : ℕ) (room export : List ℕ) (wanted : Bo
   unfolding answered
   refusal-solved q n e = rw (e, answered) (refusal-written (refused q n) q n wanted room export)
 
-  module _ (p : Problem) (reads : read sheet ≡ accepted p) (ended : Ended) (given : ℕ) (arities starts literals numbers table values : List ℕ)
+  module _ (p : Problem) (reads : read sheet ≡ accepted p) (ended : Ended) (given : ℕ) (arities starts literals numbers table : List ℕ) (values : Values)
       (end : AtEnd p budget ended given arities starts literals numbers table values) where
     pub listing-in-room : budget < 2 ^ 32 → roomBytes ≤ length room → length (listing (ended .verdict) (end .state)) ≤ length room
     listing-in-room small large = omega (arith, listing-at-most sheet p reads budget (ended .verdict) (end .state) (end .comes) small)

@@ -21,6 +21,7 @@ use encoding::LITERALS;
 use encoding::LOGGED;
 use encoding::STARTS;
 use encoding::SYMBOLS;
+use encoding::values::Values;
 use machine::Ended;
 use pipe::Reached;
 
@@ -41,7 +42,7 @@ fn listed(
     literals: &[u16; LITERALS],
     numbers: &[u8; LOGGED],
     table: &[u32; ATOMS],
-    values: &[u8; ATOMS],
+    values: &Values,
 ) -> Solved
     requires { ⌜ ((p : Problem) × (budget : ℕ) × (s : State) × Finished p budget s ended given (now arities) (now starts) (now literals) (now numbers) (now table) (now values)
         × (length (listingOf (ended .verdict) s) ≤ length (now room))) ⌝ }
@@ -87,7 +88,7 @@ fn made(
     literals: &[u16; LITERALS],
     numbers: &[u8; LOGGED],
     table: &[u32; ATOMS],
-    values: &[u8; ATOMS],
+    values: &Values,
 ) -> Solved
     requires { ⌜ ((p : Problem) × (budget : ℕ) × (s : State) × Finished p budget s ended given (now arities) (now starts) (now literals) (now numbers) (now table) (now values)
         × (length (listingOf (ended .verdict) s) ≤ length (now room)) × (wanted ≡ true → length (cnfText (cnfOf (p .clauses) s)) ≤ length (now cnf))) ⌝ }
@@ -131,7 +132,7 @@ pub fn answered(sheet: &[u8], budget: u32, room: &mut [u8], cnf: &mut [u8], want
     let mut literals = [0u16; LITERALS];
     let mut numbers = [0u8; LOGGED];
     let mut table = [0u32; ATOMS];
-    let mut values = [0u8; ATOMS];
+    let mut values: Values = [0; ATOMS];
     match pipe::search_sheet(
         sheet,
         budget,

@@ -16,6 +16,7 @@ use Rattle.theory.specs.ListLaws.{joined-append}
 use Rattle.theory.specs.PlaceLaws.{upFrom-append}
 use Rattle.encoding.specs.Encoding.{literalWord, clauseWords}
 use Rattle.encoding.specs.Signs.{numberOf, number-word}
+use Rattle.encoding.specs.Values.{Values}
 use Rattle.units.specs.Units.{clauseAt}
 use Rattle.machine.specs.Finished.{Finished}
 use Rattle.machine.specs.declared.Ended.{Ended}
@@ -44,7 +45,7 @@ module _ (table : List Atom) where
   unfolding lineText clauseText
   line-stands starts literals n c e = cc (words-stand c)
 
-module _ (p : Problem) (budget : ℕ) (s : State) (ended : Ended) (given : ℕ) (arities starts literals numbers table values : List ℕ)
+module _ (p : Problem) (budget : ℕ) (s : State) (ended : Ended) (given : ℕ) (arities starts literals numbers table : List ℕ) (values : Values)
     (h : Finished p budget s ended given arities starts literals numbers table values) where
   -- ── the goal clauses and then the log ──
 

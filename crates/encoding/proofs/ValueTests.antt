@@ -1,11 +1,10 @@
 -- Values in the code's terms: what each way through the tests gives, at the word as it was widened. Assumes nothing.
 use Prim.Native.Nat.{ℕ, _+_, _/_, _%_}
 use mathlib.Core.Path.{_≡_}
-use mathlib.Core.List.{List}
 use lib.Dec.{eqb}
 use lib.ListN.{getD, set}
 use borrow.Author.Tests.{eq-eqb, ne-eqb}
-use Rattle.encoding.specs.Values.{Value, unsetValue, trueValue, falseValue, isUnsetValue, isTrueValue, isFalseValue, opposite, valueAt, unsetAt, literalValue, trueWord, falseWord, assigned, unassigned}
+use Rattle.encoding.specs.Values.{Value, Values, unsetValue, trueValue, falseValue, isUnsetValue, isTrueValue, isFalseValue, opposite, valueAt, unsetAt, literalValue, trueWord, falseWord, assigned, unassigned}
 use Rattle.encoding.specs.ValueLaws.{is-true, other-than-true, is-false, other-than-false}
 
 module _ (v : Value) where
@@ -21,11 +20,11 @@ module _ (v : Value) where
   unfolding opposite
   opposite-unset n m = cc (other-than-true v n, other-than-false v m)
 
-pub unset-is : (values : List ℕ) (at : ℕ) → eqb (getD values at 0) unsetValue ≡ unsetAt values at
+pub unset-is : (values : Values) (at : ℕ) → eqb (getD values at 0) unsetValue ≡ unsetAt values at
 unfolding unsetAt valueAt isUnsetValue
 unset-is values at = cc
 
-module _ (values : List ℕ) (w : ℕ) where
+module _ (values : Values) (w : ℕ) where
   module _ (v : Value) (its : v ≡ literalValue values w) where
     pub true-is : eqb v trueValue ≡ trueWord values w
     unfolding trueWord isTrueValue

@@ -12,10 +12,10 @@ use Rattle.definitions.specs.Lists.{_∈_}
 use Rattle.theory.specs.Tests.{apart, none≢some, some-injective}
 use Rattle.encoding.specs.CountLaws.{left-none, by-order}
 
-pub getD-zeros : (n i : ℕ) → _≡_ {A = ℕ} (getD (replicate n 0) i 0) 0
-getD-zeros zero i = refl
-getD-zeros (suc n) zero = refl
-getD-zeros (suc n) (suc i) = getD-zeros n i
+pub getD-repeated : {A : Type 0} (d : A) (n i : ℕ) → getD (replicate n d) i d ≡ d
+getD-repeated d zero i = refl
+getD-repeated d (suc n) zero = refl
+getD-repeated d (suc n) (suc i) = getD-repeated d n i
 
 -- what holds of the default and of every element holds at every place
 pub getD-each : {A : Type 0} (P : A → Type 0) (l : List A) (i : ℕ) (d : A) → P d → ((x : A) → x ∈ l → P x) → P (getD l i d)

@@ -13,7 +13,7 @@ use Rattle.definitions.specs.Words.{Atom, sameAtom, position}
 use Rattle.theory.specs.Tests.{by-test, true-and-false}
 use Rattle.theory.specs.ListLaws.{Different}
 use Rattle.theory.specs.WordLaws.{atom-ext, sameAtom-eq, sameAtom-refl}
-use Rattle.encoding.specs.ArrayLaws.{getD-zeros, getD-each, getD-set-each}
+use Rattle.encoding.specs.ArrayLaws.{getD-repeated, getD-each, getD-set-each}
 use Rattle.encoding.specs.Encoding.{place, codeOf, atomCode, indexFrom, emptyIndex}
 
 -- ── codes ──
@@ -109,7 +109,7 @@ index-more n (g ∷ gs) a index =
 
 pub empty-at : (k : ℕ) → getD emptyIndex k 0 ≡ 0
 unfolding emptyIndex
-empty-at k = getD-zeros atomCodes k
+empty-at k = getD-repeated 0 atomCodes k
 
 empty-size : length emptyIndex ≡ atomCodes
 unfolding emptyIndex

@@ -6,6 +6,7 @@ use mathlib.Core.List.{List}
 use denote.Ref.{RefT}
 use denote.Triple.Both.{Both}
 use Rattle.encoding.specs.Encoding.{Arrays, arrays}
+use Rattle.encoding.specs.Values.{Values}
 
 -- an array as a `requires` names it, and at both moments, as an `ensures` does
 abbrev pub Array : Type 0
@@ -13,6 +14,9 @@ Array = RefT (List ℕ)
 
 abbrev pub Lent : Type 0
 Lent = Both Array Array
+
+abbrev pub LentValues : Type 0
+LentValues = Both (RefT Values) (RefT Values)
 
 -- how what is left stands to what was lent, and that it is made of it by a function
 abbrev pub Leaves : {A : Type 0} → (A → A → Type 0) → Both A A → Type 0
@@ -42,11 +46,11 @@ atomTable codes index = record { codes = codes; index = index }
 
 -- the trail: the value of each position's atom, and of each entry its literal's word and why it was set
 pub record TrailArrays : Type 0 where
-  pub values : List ℕ
+  pub values : Values
   pub words : List ℕ
   pub marks : List ℕ
 
-abbrev pub trailArrays : List ℕ → List ℕ → List ℕ → TrailArrays
+abbrev pub trailArrays : Values → List ℕ → List ℕ → TrailArrays
 trailArrays values words marks = record { values = values; words = words; marks = marks }
 
 -- ── lent ──
@@ -65,7 +69,7 @@ lentArrays arities rules starts literals table index =
       exit = arrays (arities .exit .now) (rules .exit .now) (starts .exit .now) (literals .exit .now) (table .exit .now) (index .exit .now);
     }
 
-abbrev pub lentTrail : Lent → Lent → Lent → Both TrailArrays TrailArrays
+abbrev pub lentTrail : LentValues → Lent → Lent → Both TrailArrays TrailArrays
 lentTrail values trail marks =
     record {
       entry = trailArrays (values .entry .now) (trail .entry .now) (marks .entry .now);

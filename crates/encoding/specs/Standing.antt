@@ -9,18 +9,18 @@ use Rattle.definitions.specs.Words.{Atom, Literal, plain, Problem, position}
 use Rattle.definitions.specs.Search.{Trail, isTrue, isFalse}
 use Rattle.theory.specs.Limits.{LiteralLimits}
 use Rattle.encoding.specs.Encoding.{atomCode, literalWord}
-use Rattle.encoding.specs.Values.{Value, unsetValue, trueValue, falseValue, valueAt, trueWord}
+use Rattle.encoding.specs.Values.{Value, Values, unsetValue, trueValue, falseValue, valueAt, trueWord}
 
 -- a literal's truth as a value
 unfoldable pub truth : Trail → Literal → Value
 truth t l = elim (isTrue t l) [ true ↦ trueValue | false ↦ elim (isFalse t l) [ true ↦ falseValue | false ↦ unsetValue ] ]
 
 -- the values are those of the trail, for every atom of the table
-abbrev pub Valued : List Atom → Trail → List ℕ → Type 0
+abbrev pub Valued : List Atom → Trail → Values → Type 0
 Valued table t values = (a : Atom) → a ∈ table → valueAt values (position table a) ≡ truth t (plain a)
 
 -- a literal of the table is true just where its word is
-abbrev pub TrueWords : List Atom → Trail → List ℕ → Type 0
+abbrev pub TrueWords : List Atom → Trail → Values → Type 0
 TrueWords table t values = (l : Literal) → l .atom ∈ table → trueWord values (literalWord table l) ≡ isTrue t l
 
 -- the index finds every atom of the sheet's symbols and constants that is in the table, and no other

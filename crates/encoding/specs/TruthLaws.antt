@@ -1,5 +1,5 @@
 -- A literal's truth as a value, by what the trail says of it, and what its word says where the values are those of the trail. Assumes nothing.
-use Prim.Native.Nat.{ℕ, _+_, _*_}
+use Prim.Native.Nat.{_+_, _*_}
 use mathlib.Core.Path.{_≡_, sym, _∙_, ap}
 use mathlib.Core.Bool.{true, false}
 use mathlib.Core.List.{List}
@@ -11,7 +11,7 @@ use Rattle.theory.specs.WordLaws.{as-plain, as-negated}
 use Rattle.theory.specs.SearchLaws.{unset-not-true, unset-not-false, unset-of, unset-negate, negated-false}
 use Rattle.encoding.specs.Signs.{wordOf}
 use Rattle.encoding.specs.Encoding.{literalWord}
-use Rattle.encoding.specs.Values.{unsetValue, trueValue, falseValue, isUnsetValue, isTrueValue, isFalseValue, opposite, unsetAt, literalValue, trueWord, falseWord}
+use Rattle.encoding.specs.Values.{Values, unsetValue, trueValue, falseValue, isUnsetValue, isTrueValue, isFalseValue, opposite, unsetAt, literalValue, trueWord, falseWord}
 use Rattle.encoding.specs.ValueLaws.{value-even, value-odd}
 use Rattle.encoding.specs.Standing.{truth, Valued, TrueWords}
 
@@ -65,7 +65,7 @@ module _ (t : Trail) (consistent : Consistent t) (l : Literal) where
 
 -- ── words ──
 
-module _ (table : List Atom) (t : Trail) (values : List ℕ) (valued : Valued table t values) where
+module _ (table : List Atom) (t : Trail) (values : Values) (valued : Valued table t values) where
   pub unset-at : (a : Atom) → a ∈ table → unsetAt values (position table a) ≡ isUnset t (plain a)
   unfolding unsetAt
   unset-at a m = ap isUnsetValue (valued a m) ∙ truth-is-unset t (plain a)

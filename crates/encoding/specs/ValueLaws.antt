@@ -2,15 +2,14 @@
 use Prim.Native.Nat.{ℕ, _+_, _*_, _/_, _%_, _<_}
 use mathlib.Core.Path.{_≡_}
 use mathlib.Core.Bool.{true, false}
-use mathlib.Core.List.{List}
 use native.Mathlib.Omega.{arith}
 use lib.Dec.{eqb}
 use lib.ListN.{length, length-set, length-replicate}
 use lib.Seq.{getD-set-same, getD-set-other, set-comm}
 use borrow.Author.Tests.{ne-eqb, eqb-true, eqb-false}
 use Rattle.theory.specs.Tests.{by-test}
-use Rattle.encoding.specs.ArrayLaws.{getD-zeros}
-use Rattle.encoding.specs.Values.{Value, unsetValue, trueValue, falseValue, isTrueValue, isFalseValue, opposite, valueAt, literalValue, noValues, assigned, unassigned}
+use Rattle.encoding.specs.ArrayLaws.{getD-repeated}
+use Rattle.encoding.specs.Values.{Value, Values, unsetValue, trueValue, falseValue, isTrueValue, isFalseValue, opposite, valueAt, literalValue, noValues, assigned, unassigned}
 
 -- ── the tests of a value ──
 
@@ -33,7 +32,7 @@ module _ (v : Value) where
 
 -- ── a literal's value ──
 
-module _ (values : List ℕ) (p : ℕ) where
+module _ (values : Values) (p : ℕ) where
   pub value-even : literalValue values (2 * p) ≡ valueAt values p
   unfolding literalValue
   value-even =
@@ -69,7 +68,7 @@ module _ (values : List ℕ) (p : ℕ) where
     unfolding valueAt unassigned
     unassigned-here w q = rw q (getD-set-same values p unsetValue unsetValue inside)
 
-module _ (values : List ℕ) (w : ℕ) where
+module _ (values : Values) (w : ℕ) where
   pub assigned-elsewhere : (i : ℕ) → (w / 2 ≡ i → ⊥) → valueAt (assigned values w) i ≡ valueAt values i
   unfolding valueAt assigned
   assigned-elsewhere i other = getD-set-other values (w / 2) i (trueValue + w % 2) unsetValue (λ q. other (cc))
@@ -87,7 +86,7 @@ module _ (values : List ℕ) (w : ℕ) where
   length-unassigned = length-set values (w / 2) unsetValue
 
 -- atoms are unset in any order
-pub unassigned-either : (values : List ℕ) (v w : ℕ) → unassigned (unassigned values v) w ≡ unassigned (unassigned values w) v
+pub unassigned-either : (values : Values) (v w : ℕ) → unassigned (unassigned values v) w ≡ unassigned (unassigned values w) v
 unfolding unassigned
 unassigned-either values v w =
     by-test (eqb (v / 2) (w / 2))
@@ -99,4 +98,4 @@ length-none = length-replicate {A = ℕ} 256 unsetValue
 
 pub no-value : (p : ℕ) → valueAt noValues p ≡ unsetValue
 unfolding valueAt
-no-value p = getD-zeros 256 p
+no-value p = getD-repeated 0 256 p

@@ -10,6 +10,9 @@ use lib.ListN.{getD, set, replicate}
 abbrev pub Value : Type 0
 Value = ℕ
 
+abbrev pub Values : Type 0
+Values = List Value
+
 abbrev pub unsetValue : Value
 unsetValue = 0
 
@@ -35,32 +38,32 @@ opposite v = elim (isTrueValue v) [ true ↦ falseValue | false ↦ elim (isFals
 -- ── of an atom and of a literal ──
 
 -- the state of the atom at a position
-unfoldable pub valueAt : List ℕ → ℕ → Value
+unfoldable pub valueAt : Values → ℕ → Value
 valueAt values i = getD values i unsetValue
 
-unfoldable pub unsetAt : List ℕ → ℕ → Bool
+unfoldable pub unsetAt : Values → ℕ → Bool
 unsetAt values i = isUnsetValue (valueAt values i)
 
 -- the value of a literal: an even word is its atom's, an odd one its negation's
-unfoldable pub literalValue : List ℕ → ℕ → Value
+unfoldable pub literalValue : Values → ℕ → Value
 literalValue values w = elim (eqb (w % 2) 0) [ true ↦ valueAt values (w / 2) | false ↦ opposite (valueAt values (w / 2)) ]
 
-unfoldable pub trueWord : List ℕ → ℕ → Bool
+unfoldable pub trueWord : Values → ℕ → Bool
 trueWord values w = isTrueValue (literalValue values w)
 
-unfoldable pub falseWord : List ℕ → ℕ → Bool
+unfoldable pub falseWord : Values → ℕ → Bool
 falseWord values w = isFalseValue (literalValue values w)
 
 -- ── setting and unsetting ──
 
 -- the values where no atom is set
-abbrev pub noValues : List ℕ
+abbrev pub noValues : Values
 noValues = replicate 256 unsetValue
 
 -- the values once the literal is set: its atom is true, or false where the word is odd
-unfoldable pub assigned : List ℕ → ℕ → List ℕ
+unfoldable pub assigned : Values → ℕ → Values
 assigned values w = set values (w / 2) (trueValue + w % 2)
 
 -- the values once its atom is unset
-unfoldable pub unassigned : List ℕ → ℕ → List ℕ
+unfoldable pub unassigned : Values → ℕ → Values
 unassigned values w = set values (w / 2) unsetValue

@@ -7,6 +7,8 @@ use crate::wide;
 
 pub type Value = u8;
 
+pub type Values = [Value; ATOMS];
+
 pub const UNSET: Value = 0;
 
 pub const TRUE: Value = 1;
@@ -26,7 +28,7 @@ fn negated(v: Value) -> Value
 }
 
 // The value of a literal.
-pub fn value(values: &[u8; ATOMS], w: u16) -> Value
+pub fn value(values: &Values, w: u16) -> Value
     requires { ⌜ w < 512 ⌝ }
     ensures { λ r. ⌜ r ≡ literalValue (now (values .entry)) w ⌝ }
 {
@@ -39,14 +41,14 @@ pub fn value(values: &[u8; ATOMS], w: u16) -> Value
     negated(v)
 }
 
-pub fn is_true(values: &[u8; ATOMS], w: u16) -> bool
+pub fn is_true(values: &Values, w: u16) -> bool
     requires { ⌜ w < 512 ⌝ }
     ensures { λ r. ⌜ r ≡ trueWord (now (values .entry)) w ⌝ }
 {
     value(values, w) == TRUE
 }
 
-pub fn is_false(values: &[u8; ATOMS], w: u16) -> bool
+pub fn is_false(values: &Values, w: u16) -> bool
     requires { ⌜ w < 512 ⌝ }
     ensures { λ r. ⌜ r ≡ falseWord (now (values .entry)) w ⌝ }
 {
@@ -54,7 +56,7 @@ pub fn is_false(values: &[u8; ATOMS], w: u16) -> bool
 }
 
 // Whether the atom at a position is unset.
-pub fn is_unset(values: &[u8; ATOMS], at: usize) -> bool
+pub fn is_unset(values: &Values, at: usize) -> bool
     requires { ⌜ at < 256 ⌝ }
     ensures { λ r. ⌜ r ≡ unsetAt (now (values .entry)) at ⌝ }
 {
@@ -62,7 +64,7 @@ pub fn is_unset(values: &[u8; ATOMS], at: usize) -> bool
 }
 
 // Sets a literal.
-pub fn assign(values: &mut [u8; ATOMS], w: u16)
+pub fn assign(values: &mut Values, w: u16)
     requires { ⌜ w < 512 ⌝ }
     ensures { λ _. ⌜ now (values .exit) ≡ assigned (now (values .entry)) w ⌝ }
 {
@@ -72,7 +74,7 @@ pub fn assign(values: &mut [u8; ATOMS], w: u16)
 }
 
 // Unsets its atom.
-pub fn unassign(values: &mut [u8; ATOMS], w: u16)
+pub fn unassign(values: &mut Values, w: u16)
     requires { ⌜ w < 512 ⌝ }
     ensures { λ _. ⌜ now (values .exit) ≡ unassigned (now (values .entry)) w ⌝ }
 {

@@ -9,7 +9,7 @@ use lib.ListN.{length, getD, take, drop, length-drop}
 use lib.Seq.{length-take-le}
 use Rattle.encoding.specs.ArrayLaws.{getD-rising, part-cons, part-nil}
 use Rattle.encoding.specs.CountLaws.{upFrom-more, upFrom-none}
-use Rattle.encoding.specs.Values.{unsetAt, falseWord}
+use Rattle.encoding.specs.Values.{Values, unsetAt, falseWord}
 use Rattle.definitions.specs.Lists.{joined, upFrom}
 use Rattle.definitions.specs.Sheet.{Number, plus}
 use Rattle.definitions.specs.Listing.{fieldBytes, lineBytes, narrow, wide, answerNumber}
@@ -152,7 +152,7 @@ logged-first given arities starts literals numbers table n =
 
 -- ── the lines of kind 7 ──
 
-module _ (arities table values : List ℕ) (i : ℕ) where
+module _ (arities table : List ℕ) (values : Values) (i : ℕ) where
   pub setting-unset : {b : Bool} → b ≡ unsetAt values i → b ≡ true → settingBytes arities table values i ≡ []
   unfolding settingBytes
   setting-unset u e = cc
@@ -161,7 +161,7 @@ module _ (arities table values : List ℕ) (i : ℕ) where
   unfolding settingBytes
   setting-set u e f = cc
 
-module _ (v : Verdict) (atoms : ℕ) (arities table values : List ℕ) where
+module _ (v : Verdict) (atoms : ℕ) (arities table : List ℕ) (values : Values) where
   pub settings-unsat : v ≡ Unsat → settingsBytes v atoms arities table values ≡ []
   unfolding settingsBytes
   settings-unsat e = rw e
@@ -180,7 +180,7 @@ module _ (v : Verdict) (atoms : ℕ) (arities table values : List ℕ) where
 
 -- ── all lines ──
 
-pub listing-first : (v : Verdict) (run : Run) (given : ℕ) (arities starts literals numbers table values : List ℕ)
+pub listing-first : (v : Verdict) (run : Run) (given : ℕ) (arities starts literals numbers table : List ℕ) (values : Values)
     → Parts
     (listingBytes v run given arities starts literals numbers table values)
     (countBytes v (run .atoms) (run .clauses - given) (run .decisions) (run .conflicts))

@@ -10,7 +10,7 @@ use Rattle.definitions.specs.Sheet.{Number, plus}
 use Rattle.definitions.specs.Listing.{fieldBytes, lineBytes, narrow, wide, answerNumber}
 use Rattle.definitions.specs.declared.Verdict.{Verdict}
 use Rattle.definitions.specs.declared.Verdict.the-variants.{Unsat, Unknown, Spent, Full}
-use Rattle.encoding.specs.Values.{unsetAt, falseWord}
+use Rattle.encoding.specs.Values.{Values, unsetAt, falseWord}
 use Rattle.units.specs.Units.{clauseAt}
 use Rattle.machine.specs.declared.Run.{Run}
 
@@ -55,7 +55,7 @@ unfoldable pub logBytes : ℕ → ℕ → List ℕ → List ℕ → List ℕ →
 logBytes given clauses arities starts literals numbers table = joined (loggedBytes given arities starts literals numbers table) (upFrom 0 (clauses - given))
 
 -- kind 7 of the atom at a position, if it is set: the atom, or its negation where the positive literal is false
-unfoldable pub settingBytes : List ℕ → List ℕ → List ℕ → ℕ → List ℕ
+unfoldable pub settingBytes : List ℕ → List ℕ → Values → ℕ → List ℕ
 settingBytes arities table values i =
     elim (unsetAt values i) [
       | true ↦ []
@@ -63,7 +63,7 @@ settingBytes arities table values i =
     ]
 
 -- for UNKNOWN only
-unfoldable pub settingsBytes : Verdict → ℕ → List ℕ → List ℕ → List ℕ → List ℕ
+unfoldable pub settingsBytes : Verdict → ℕ → List ℕ → List ℕ → Values → List ℕ
 settingsBytes Unsat atoms arities table values = []
 settingsBytes Unknown atoms arities table values = joined (settingBytes arities table values) (upFrom 0 atoms)
 settingsBytes Spent atoms arities table values = []
@@ -75,7 +75,7 @@ countBytes v atoms logged decisions conflicts =
     columnBytes (plus 5 ∷ plus (answerNumber v) ∷ plus atoms ∷ plus logged ∷ [])
     ++ (fieldBytes (wide decisions) ++ (fieldBytes (wide conflicts) ++ (10 ∷ [])))
 
-unfoldable pub listingBytes : Verdict → Run → ℕ → List ℕ → List ℕ → List ℕ → List ℕ → List ℕ → List ℕ → List ℕ
+unfoldable pub listingBytes : Verdict → Run → ℕ → List ℕ → List ℕ → List ℕ → List ℕ → List ℕ → Values → List ℕ
 listingBytes v run given arities starts literals numbers table values =
     countBytes v (run .atoms) (run .clauses - given) (run .decisions) (run .conflicts)
     ++ (logBytes given (run .clauses) arities starts literals numbers table ++ settingsBytes v (run .atoms) arities table values)

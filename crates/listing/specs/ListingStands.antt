@@ -22,9 +22,9 @@ use Rattle.encoding.specs.Encoding.{atomCode, literalWord, clauseWords}
 use Rattle.encoding.specs.PositionLaws.{code-at}
 use Rattle.encoding.specs.HoldLaws.{searchable-encodable, plain-limits}
 use Rattle.encoding.specs.Signs.{numberOf, number-word}
-use Rattle.encoding.specs.Values.{unsetAt, falseWord}
-use Rattle.encoding.specs.TruthLaws.{Consistent, by-truth, unset-at, false-word}
+use Rattle.encoding.specs.Values.{Values, unsetAt, falseWord}
 use Rattle.encoding.specs.ArrayLaws.{front-at}
+use Rattle.encoding.specs.TruthLaws.{Consistent, by-truth, unset-at, false-word}
 use Rattle.units.specs.LiteralWords.{word-plain}
 use Rattle.theory.specs.PlaceLaws.{getElem-in}
 use Rattle.machine.specs.Finished.{Finished}
@@ -45,7 +45,7 @@ count-stands v s =
     let behind = append-assoc (joined fieldBytes narrows) (decisions ++ (conflicts ++ [])) (10 ∷ []) in
     cc (columns, behind, append-assoc decisions (conflicts ++ []) (10 ∷ []), append-assoc conflicts [] (10 ∷ []))
 
-module _ (p : Problem) (budget : ℕ) (s : State) (ended : Ended) (given : ℕ) (arities starts literals numbers table values : List ℕ)
+module _ (p : Problem) (budget : ℕ) (s : State) (ended : Ended) (given : ℕ) (arities starts literals numbers table : List ℕ) (values : Values)
     (h : Finished p budget s ended given arities starts literals numbers table values) where
   -- ── literals ──
 

@@ -21,6 +21,7 @@ use encoding::LOGGED;
 use encoding::STARTS;
 use encoding::SYMBOLS;
 use encoding::values;
+use encoding::values::Values;
 use machine::Ended;
 use machine::Run;
 
@@ -205,7 +206,7 @@ fn put_setting(
     at: usize,
     arities: &[u8; SYMBOLS],
     table: &[u32; ATOMS],
-    values: &[u8; ATOMS],
+    values: &Values,
     i: usize,
 ) -> usize
     requires { ⌜ (i < 256) × (at + length (settingBytes (now arities) (now table) (now values) i) ≤ length (now room)) ⌝ }
@@ -226,7 +227,7 @@ fn put_settings(
     atoms: usize,
     arities: &[u8; SYMBOLS],
     table: &[u32; ATOMS],
-    values: &[u8; ATOMS],
+    values: &Values,
 ) -> usize
     requires { ⌜ (atoms ≤ 256) × (at + length (joined (settingBytes (now arities) (now table) (now values)) (upFrom 0 atoms)) ≤ length (now room)) ⌝ }
     ensures { λ r. ⌜ Put (now (room .entry)) at (joined (settingBytes (now (arities .entry)) (now (table .entry)) (now (values .entry))) (upFrom 0 atoms)) r (now (room .exit)) ⌝ }
@@ -283,7 +284,7 @@ fn put_last(
     atoms: usize,
     arities: &[u8; SYMBOLS],
     table: &[u32; ATOMS],
-    values: &[u8; ATOMS],
+    values: &Values,
 ) -> usize
     requires { ⌜ (atoms ≤ 256) × (at + length (settingsBytes verdict atoms (now arities) (now table) (now values)) ≤ length (now room)) ⌝ }
     ensures { λ r. ⌜ Put (now (room .entry)) at (settingsBytes verdict atoms (now (arities .entry)) (now (table .entry)) (now (values .entry))) r (now (room .exit)) ⌝ }
@@ -308,7 +309,7 @@ fn put_lines(
     literals: &[u16; LITERALS],
     numbers: &[u8; LOGGED],
     table: &[u32; ATOMS],
-    values: &[u8; ATOMS],
+    values: &Values,
 ) -> usize
     requires { ⌜ (run .atoms ≤ 256) × ClausesListable given (run .clauses) (now starts) (now literals)
         × (at + length (listingBytes verdict run given (now arities) (now starts) (now literals) (now numbers) (now table) (now values)) ≤ length (now room)) ⌝ }
@@ -348,7 +349,7 @@ pub fn put_listing(
     literals: &[u16; LITERALS],
     numbers: &[u8; LOGGED],
     table: &[u32; ATOMS],
-    values: &[u8; ATOMS],
+    values: &Values,
 ) -> usize
     requires { ⌜ ((p : Problem) × (budget : ℕ) × (s : State) × Finished p budget s ended given (now arities) (now starts) (now literals) (now numbers) (now table) (now values)
         × (length (listed (ended .verdict) s) ≤ length (now room))) ⌝ }

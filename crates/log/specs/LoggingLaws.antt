@@ -6,6 +6,7 @@ use mathlib.Core.List.{List}
 use lib.Dec.{eqb, ltb}
 use lib.ListN.{getD}
 use Rattle.theory.specs.Tests.{by-test, none≢some, some-injective}
+use Rattle.encoding.specs.Values.{Values}
 use Rattle.log.specs.Logging.{Log, takenSlot, entersSlot, putClause, tooMany, logTaken, logUnder}
 use Rattle.rules.specs.Rules.{codeUnder}
 
@@ -22,7 +23,7 @@ taken-clauses rules filling r given (some base) l k e =
     (λ t. none≢some (rw (t, logTaken) at e))
     (λ t. sym (ap (λ (x : Log). x .clauses) (some-injective (rw (t, logTaken) at e))) ∙ ap (λ (n : ℕ). n + 1) (enters-clauses rules filling base l))
 
-pub one-more : (values rules filling : List ℕ) (r given : ℕ) (l k : Log) → logUnder values rules filling r given l ≡ some k → k .clauses ≡ l .clauses + 1
+pub one-more : (values : Values) (rules filling : List ℕ) (r given : ℕ) (l k : Log) → logUnder values rules filling r given l ≡ some k → k .clauses ≡ l .clauses + 1
 unfolding logUnder
 one-more values rules filling r given l k e =
     by-test (ltb (l .clauses - given) 512)

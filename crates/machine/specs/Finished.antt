@@ -7,11 +7,12 @@ use Rattle.definitions.specs.Words.{Problem}
 use Rattle.definitions.specs.Search.{State, Outcome, more, done, search}
 use Rattle.definitions.specs.declared.Verdict.{Verdict}
 use Rattle.theory.specs.Limits.{Searchable}
+use Rattle.encoding.specs.Values.{Values}
 use Rattle.machine.specs.Machine.{Machine, machine, StandsAtEnd, EndStands}
 use Rattle.machine.specs.declared.Ended.{Ended}
 
 -- the arrays stand for the state in which the search of a problem ended, and for the arities of its symbols
-pub record Finished (p : Problem) (budget : ℕ) (s : State) (ended : Ended) (given : ℕ) (arities starts literals numbers table values : List ℕ) : Type 0 where
+pub record Finished (p : Problem) (budget : ℕ) (s : State) (ended : Ended) (given : ℕ) (arities starts literals numbers table : List ℕ) (values : Values) : Type 0 where
   pub limits : Searchable p
   pub itsArities : (i : ℕ) → i < length (p .arities) → getD arities i 0 ≡ getD (p .arities) i 0
   pub itsClauses : given ≡ length (p .clauses)
@@ -22,7 +23,7 @@ pub record Finished (p : Problem) (budget : ℕ) (s : State) (ended : Ended) (gi
   pub stands : StandsAtEnd p budget (ended .verdict) s (machine starts literals heads numbers table index values trail marks) (ended .run)
 
 -- what the search came to, with the arrays that stand for it
-pub record AtEnd (p : Problem) (budget : ℕ) (ended : Ended) (given : ℕ) (arities starts literals numbers table values : List ℕ) : Type 0 where
+pub record AtEnd (p : Problem) (budget : ℕ) (ended : Ended) (given : ℕ) (arities starts literals numbers table : List ℕ) (values : Values) : Type 0 where
   pub state : State
   pub comes : search p budget ≡ done (ended .verdict) state
   pub finished : Finished p budget state ended given arities starts literals numbers table values

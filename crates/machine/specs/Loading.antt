@@ -12,7 +12,7 @@ use Rattle.definitions.specs.Search.{start, search}
 use Rattle.definitions.specs.Questions.{read, accepted}
 use Rattle.theory.specs.Limits.{limits-searchable, accepted-limits}
 use Rattle.encoding.specs.Slots.{ruleWords}
-use Rattle.encoding.specs.Values.{noValues}
+use Rattle.encoding.specs.Values.{Values, noValues}
 use Rattle.encoding.specs.Encoding.{atomCode, clauseWords, startsFrom, Arrays, hold, sizesOf, emptyIndex}
 use Rattle.encoding.specs.declared.Sizes.{Sizes}
 use Rattle.machine.specs.Machine.{Machine, machine, Stands, RulesStand, EndStands, EndsRun, Lengths, Loaded}
@@ -31,7 +31,7 @@ startRun sizes = record { atoms = sizes .atoms; clauses = sizes .clauses; set = 
 stored-length : (l ws after : List ℕ) (n : ℕ) → after ≡ sets l 0 ws → length after ≡ n → length l ≡ n
 stored-length l ws after n e h = sym (length-sets l 0 ws) ∙ ap length (sym e) ∙ h
 
-module _ (p : Problem) (sizes : Sizes) (budget : ℕ) (rules starts literals heads numbers table index values trail marks : List ℕ)
+module _ (p : Problem) (sizes : Sizes) (budget : ℕ) (rules starts literals heads numbers table index : List ℕ) (values : Values) (trail marks : List ℕ)
     (loaded : Loaded p sizes rules (machine starts literals heads numbers table index values trail marks)) where
   abbrev m : Machine
   m = machine starts literals heads numbers table index values trail marks

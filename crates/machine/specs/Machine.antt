@@ -3,6 +3,7 @@ use Prim.Native.Nat.{ℕ, suc, _*_, _<_, _^_}
 use mathlib.Core.Path.{_≡_}
 use mathlib.Core.List.{List}
 use lib.ListN.{length, take}
+use denote.Ref.{RefT}
 use denote.Triple.Both.{Both}
 use Rattle.encoding.specs.Lengths.{literalArray, ruleArray, startArray}
 use Rattle.definitions.specs.Lists.{joined}
@@ -16,9 +17,9 @@ use Rattle.theory.specs.Invariants.{Sound}
 use Rattle.theory.specs.Ends.{measure}
 use Rattle.encoding.specs.Encoding.{Arrays, emptyIndex, sizesOf, hold}
 use Rattle.encoding.specs.declared.Sizes.{Sizes}
-use Rattle.encoding.specs.Lent.{Array, Lent, ClauseStore, clauseStore, AtomTable, atomTable, TrailArrays, trailArrays}
+use Rattle.encoding.specs.Lent.{Array, Lent, LentValues, ClauseStore, clauseStore, AtomTable, atomTable, TrailArrays, trailArrays}
 use Rattle.encoding.specs.Slots.{ruleWords}
-use Rattle.encoding.specs.Values.{noValues}
+use Rattle.encoding.specs.Values.{Values, noValues}
 use Rattle.units.specs.TrailWords.{TrailStands}
 use Rattle.units.specs.TrailLaws.{Room}
 use Rattle.units.specs.Units.{actFrom}
@@ -38,16 +39,16 @@ pub record Machine : Type 0 where
   pub table : AtomTable
   pub trail : TrailArrays
 
-abbrev pub machine : List ℕ → List ℕ → List ℕ → List ℕ → List ℕ → List ℕ → List ℕ → List ℕ → List ℕ → Machine
+abbrev pub machine : List ℕ → List ℕ → List ℕ → List ℕ → List ℕ → List ℕ → Values → List ℕ → List ℕ → Machine
 machine starts literals heads numbers table index values trail marks =
     record { store = clauseStore starts literals heads numbers; table = atomTable table index; trail = trailArrays values trail marks }
 
 -- lent, as a `requires` names its arrays, and at both moments
-abbrev pub machineNow : Array → Array → Array → Array → Array → Array → Array → Array → Array → Machine
+abbrev pub machineNow : Array → Array → Array → Array → Array → Array → RefT Values → Array → Array → Machine
 machineNow starts literals heads numbers table index values trail marks =
     machine (starts .now) (literals .now) (heads .now) (numbers .now) (table .now) (index .now) (values .now) (trail .now) (marks .now)
 
-abbrev pub lentMachine : Lent → Lent → Lent → Lent → Lent → Lent → Lent → Lent → Lent → Both Machine Machine
+abbrev pub lentMachine : Lent → Lent → Lent → Lent → Lent → Lent → LentValues → Lent → Lent → Both Machine Machine
 lentMachine starts literals heads numbers table index values trail marks =
     record {
       entry = machineNow (starts .entry) (literals .entry) (heads .entry) (numbers .entry) (table .entry) (index .entry) (values .entry) (trail .entry) (marks .entry);

@@ -17,7 +17,7 @@ use Rattle.theory.specs.Invariants.{Sound, start-sound}
 use Rattle.encoding.specs.Slots.{ruleWords}
 use Rattle.encoding.specs.Encoding.{emptyIndex, Arrays, hold}
 use Rattle.encoding.specs.HoldLaws.{rule-length}
-use Rattle.encoding.specs.Values.{noValues}
+use Rattle.encoding.specs.Values.{Values, noValues}
 use Rattle.encoding.specs.ValueLaws.{length-none}
 use Rattle.units.specs.TrailLaws.{start-stands}
 use Rattle.theory.specs.PlaceLaws.{joined-size}
@@ -43,7 +43,7 @@ goals-sound p limits = start-sound (taskOf p) (omega (arith, limits .goals))
 
 pub machine-start : (p : Problem) → Searchable p → (budget : ℕ) (before : Arrays) → before .index ≡ emptyIndex
     → length (before .starts) ≡ startArray → length (before .literals) ≡ literalArray → length (before .table) ≡ 256
-    → (heads numbers values trail marks : List ℕ) → length heads ≡ 512 → length numbers ≡ 512
+    → (heads numbers : List ℕ) (values : Values) (trail marks : List ℕ) → length heads ≡ 512 → length numbers ≡ 512
     → values ≡ noValues → length trail ≡ 256 → length marks ≡ 256
     → Stands p budget (start (taskOf p))
     (machine (hold p before .starts) (hold p before .literals) heads numbers (hold p before .table) (hold p before .index) values trail marks)

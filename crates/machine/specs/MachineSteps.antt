@@ -9,7 +9,7 @@ use lib.Dec.{eqb, leb}
 use lib.ListN.{getD, set, take, drop}
 use Rattle.definitions.specs.declared.Verdict.the-variants.{Unsat, Unknown, Spent, Full}
 use Rattle.definitions.specs.Search.{decided, flipped, forced}
-use Rattle.encoding.specs.Values.{assigned}
+use Rattle.encoding.specs.Values.{Values, assigned}
 use Rattle.units.specs.TrailWords.{markOf, latestDecision, cleared, firstUnset}
 use Rattle.log.specs.Logging.{Log, logUnder}
 use Rattle.encoding.specs.declared.Sizes.{Sizes}
@@ -84,7 +84,7 @@ goalStep goals budget t run =
 -- ── on the log ──
 
 -- B: an instance is logged
-unfoldable pub instanceStep : List ℕ → List ℕ → Sizes → ℕ → ℕ → Log → Run → Stepped Log
+unfoldable pub instanceStep : Values → List ℕ → Sizes → ℕ → ℕ → Log → Run → Stepped Log
 instanceStep values rules sizes r f l run =
     elim (logUnder values rules (fillingOf (sizes .constants) (ruleVariables rules r) f) r (sizes .clauses) l) [
       | none ↦ stepped (Done Full run) l

@@ -21,6 +21,7 @@ use Rattle.theory.specs.Unknown.{consistent}
 use Rattle.theory.specs.Ends.{Fits, step-fits}
 use Rattle.units.specs.Units.{actFrom}
 use Rattle.encoding.specs.Standing.{TrueWords}
+use Rattle.encoding.specs.TruthLaws.{Consistent, true-word}
 use Rattle.units.specs.ClausesStand.{actWord}
 use Rattle.units.specs.UnitLaws.{act-stands}
 use Rattle.units.specs.TrailWords.{latestDecision, firstUnset, TrailStands}
@@ -28,7 +29,6 @@ use Rattle.walk.specs.Walk.{walkFrom}
 use Rattle.walk.specs.WalkStands.{WalkAs, walk-stands}
 use Rattle.log.specs.LogHolds.{holds-index}
 use Rattle.machine.specs.Machine.{Machine, logIn, Stands, RulesStand}
-use Rattle.encoding.specs.TruthLaws.{Consistent, true-word}
 use Rattle.units.specs.BacktrackLaws.{DecidedTrue, backtrack-none-zero, Backtracked, backtrack-stands}
 use Rattle.units.specs.FirstUnset.{first-unset-some, first-unset-none}
 use Rattle.machine.specs.declared.Run.{Run}

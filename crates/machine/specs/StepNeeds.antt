@@ -20,6 +20,7 @@ use Rattle.encoding.specs.Encoding.{literalWord, sizesOf}
 use Rattle.encoding.specs.CodeLaws.{index-within}
 use Rattle.encoding.specs.HoldLaws.{its-clauses, its-goals}
 use Rattle.encoding.specs.declared.Sizes.{Sizes}
+use Rattle.encoding.specs.Values.{Values}
 use Rattle.units.specs.Units.{ClausesFit}
 use Rattle.units.specs.ClausesStand.{actWord}
 use Rattle.units.specs.TrailWords.{latestDecision, firstUnset}
@@ -46,7 +47,7 @@ force-of table none w e = apart (cc)
 force-of table (some conflict) w e = apart (cc)
 force-of table (some (force l)) w e = (l, refl, cc)
 
-module _ (values index rules : List ℕ) (n : ℕ) where
+module _ (values : Values) (index rules : List ℕ) (n : ℕ) where
   -- what the walk finds fires
   walk-fires : (at k r f : ℕ) → walkFrom values index rules n at k ≡ Instance r f → firesAt values index rules n r f ≡ true
   unfolding walkFrom

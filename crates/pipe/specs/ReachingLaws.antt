@@ -14,7 +14,7 @@ use Rattle.definitions.specs.declared.Refusal.{Refusal}
 use Rattle.theory.specs.Tests.{apart}
 use Rattle.theory.specs.Limits.{accepted-limits}
 use Rattle.encoding.specs.Slots.{ruleWords}
-use Rattle.encoding.specs.Values.{noValues}
+use Rattle.encoding.specs.Values.{Values, noValues}
 use Rattle.encoding.specs.Encoding.{atomCode, clauseWords, startsFrom, Arrays, emptyIndex, sizesOf, hold}
 use Rattle.encoding.specs.declared.Sizes.{Sizes}
 use Rattle.sheet.specs.LineReads.{SheetRead}
@@ -31,7 +31,7 @@ use Rattle.pipe.specs.declared.Reached.the-variants as Reached
 
 module _ (sheet : List ℕ) (r : Read) (before after : Arrays) (left : SheetRead (read sheet) r before after) where
   -- a refusal is handed on
-  pub refused-reached : (budget : ℕ) (arities starts literals numbers table values : List ℕ) (f : Refusal) → r ≡ Read.Refused f
+  pub refused-reached : (budget : ℕ) (arities starts literals numbers table : List ℕ) (values : Values) (f : Refusal) → r ≡ Read.Refused f
       → ReachedAs (read sheet) budget (Reached.Refused f) arities starts literals numbers table values
   refused-reached budget arities starts literals numbers table values f e = from (read sheet) left
     where
@@ -53,7 +53,7 @@ module _ (sheet : List ℕ) (r : Read) (before after : Arrays) (left : SheetRead
         from (refused q n) d h = apart (let z : Read.Refused (record { number = q; line = n }) ≡ Read.Accepted sizes = sym h ∙ e in cc)
         from (accepted p) d h = let same : Read.Accepted sizes ≡ Read.Accepted (sizesOf p) = sym e ∙ h .0 in f p (record { reads = d; counts = cc; holds = h .1 })
 
-    module _ (empty : before .index ≡ emptyIndex) (arities : length (before .arities) ≡ 16) (heads numbers values trail marks : List ℕ)
+    module _ (empty : before .index ≡ emptyIndex) (arities : length (before .arities) ≡ 16) (heads numbers : List ℕ) (values : Values) (trail marks : List ℕ)
         (lengths : Lengths (before .rules) (machine (before .starts) (before .literals) heads numbers (before .table) (before .index) values trail marks)) (unset : values ≡ noValues) where
       -- the machine that is searched
       abbrev loaded : Machine
@@ -100,7 +100,7 @@ module _ (sheet : List ℕ) (r : Read) (before after : Arrays) (left : SheetRead
 
 -- ── for the caller ──
 
-module _ (reading : Reading) (budget : ℕ) (r : Reached) (arities starts literals numbers table values : List ℕ)
+module _ (reading : Reading) (budget : ℕ) (r : Reached) (arities starts literals numbers table : List ℕ) (values : Values)
     (reached : ReachedAs reading budget r arities starts literals numbers table values) where
   pub reading-refused : (f : Refusal) → r ≡ Reached.Refused f → reading ≡ refused (f .number) (f .line)
   reading-refused f e = from reading reached

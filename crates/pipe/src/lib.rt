@@ -11,6 +11,7 @@ use encoding::LOGGED;
 use encoding::RULE_WORDS;
 use encoding::STARTS;
 use encoding::SYMBOLS;
+use encoding::values::Values;
 use sheet::Read;
 
 // The first question that is answered no; or the number of goal clauses, and what the search came to.
@@ -29,7 +30,7 @@ pub fn search_sheet(
     literals: &mut [u16; LITERALS],
     numbers: &mut [u8; LOGGED],
     table: &mut [u32; ATOMS],
-    values: &mut [u8; ATOMS],
+    values: &mut Values,
 ) -> Reached
     requires { ⌜ now values ≡ noValues ⌝ }
     ensures { λ r. ⌜ ReachedAs (read (now (sheet .entry))) budget r

@@ -5,7 +5,7 @@ use mathlib.Core.List.{List, [], _∷_}
 use lib.ListN.{length, getD, take, drop}
 use borrow.Author.Tests.{eq-eqb, ne-eqb}
 use Rattle.theory.specs.Tests.{by-test}
-use Rattle.encoding.specs.Values.{Value, trueValue, falseValue, isTrueValue, isFalseValue, literalValue}
+use Rattle.encoding.specs.Values.{Value, trueValue, falseValue, Values, isTrueValue, isFalseValue, literalValue}
 use Rattle.encoding.specs.ValueLaws.{is-true, other-than-true, is-false, other-than-false}
 use Rattle.encoding.specs.ArrayLaws.{part-cons, part-nil}
 use Rattle.units.specs.Scan.{unsetToo, seenWith, seenFrom, look}
@@ -48,16 +48,16 @@ with-stays : (w : ℕ) (v : Value) → seenWith Open w v ≡ Open
 unfolding seenWith unsetToo
 with-stays w v = by-test (isFalseValue v) (λ e. cc) (λ e. by-test (isTrueValue v) (λ f. cc) (λ f. cc))
 
-open-stays : (values ws : List ℕ) → seenFrom values Open ws ≡ Open
+open-stays : (values : Values) (ws : List ℕ) → seenFrom values Open ws ≡ Open
 unfolding seenFrom
 open-stays values [] = refl
 open-stays values (w ∷ ws) = ap (λ (s : Seen). seenFrom values s ws) (with-stays w (literalValue values w)) ∙ open-stays values ws
 
-pub look-start : (values ws : List ℕ) → seenFrom values AllFalse ws ≡ look values ws
+pub look-start : (values : Values) (ws : List ℕ) → seenFrom values AllFalse ws ≡ look values ws
 unfolding look
 look-start values ws = refl
 
-module _ (values words : List ℕ) (end i : ℕ) (seen : Seen) {x : Seen} (left : seenFrom values seen (take (end - i) (drop i words)) ≡ x) where
+module _ (values : Values) (words : List ℕ) (end i : ℕ) (seen : Seen) {x : Seen} (left : seenFrom values seen (take (end - i) (drop i words)) ≡ x) where
   module _ (less : i < end) (fits : end ≤ length words) {v : Value} {next : Seen} (value : v ≡ literalValue values (getD words i 0)) (joins : next ≡ seenWith seen (getD words i 0) v) where
     pub look-turn : seenFrom values next (take (end - (i + 1)) (drop (i + 1) words)) ≡ x
     unfolding seenFrom

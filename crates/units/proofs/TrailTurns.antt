@@ -8,7 +8,7 @@ use lib.ListN.{length, getD, take, drop}
 use borrow.Author.Tests.{eq-eqb, ne-eqb}
 use Rattle.definitions.specs.Search.{decided}
 use Rattle.encoding.specs.ArrayLaws.{part-cons, part-nil}
-use Rattle.encoding.specs.Values.{unsetAt, unassigned}
+use Rattle.encoding.specs.Values.{Values, unsetAt, unassigned}
 use Rattle.units.specs.TrailWords.{markOf, latestDecision, cleared, firstUnset}
 
 module _ (marks : List ℕ) {x : ℕ} where
@@ -28,7 +28,7 @@ module _ (marks : List ℕ) {x : ℕ} where
   unfolding latestDecision
   decision-end i h e = let f : i ≡ 0 = omega arith in rw (f, latestDecision) at e
 
-module _ (values : List ℕ) (n : ℕ) where
+module _ (values : Values) (n : ℕ) where
   pub unset-start : firstUnset values 0 (n - 0) ≡ firstUnset values 0 n
   unset-start = let f : n - 0 ≡ n = omega arith in ap (firstUnset values 0) f
 
@@ -51,12 +51,12 @@ module _ (values : List ℕ) (n : ℕ) where
   unset-end i h e = let f : n - i ≡ 0 = omega arith in rw (f, firstUnset) at e
 
 module _ (trail : List ℕ) (n : ℕ) where
-  pub undo-turn : (values : List ℕ) (i : ℕ) {x next : List ℕ} → i < n → n ≤ length trail → next ≡ unassigned values (getD trail i 0)
+  pub undo-turn : (values : Values) (i : ℕ) {x next : Values} → i < n → n ≤ length trail → next ≡ unassigned values (getD trail i 0)
       → cleared values (take (n - i) (drop i trail)) ≡ x → cleared next (take (n - (i + 1)) (drop (i + 1) trail)) ≡ x
   unfolding cleared
   undo-turn values i h k q e =
       rw q (rw (part-cons trail n i h k, cleared) at e)
 
-  pub undo-end : (values : List ℕ) (i : ℕ) {x : List ℕ} → n ≤ i → cleared values (take (n - i) (drop i trail)) ≡ x → values ≡ x
+  pub undo-end : (values : Values) (i : ℕ) {x : Values} → n ≤ i → cleared values (take (n - i) (drop i trail)) ≡ x → values ≡ x
   unfolding cleared
   undo-end values i h e = rw (part-nil trail n i h, cleared) at e

@@ -8,7 +8,7 @@ use lib.ListN.{length, getD, take, drop}
 use borrow.Author.Tests.{lt-ltb, le-ltb, not-true, not-false}
 use Rattle.encoding.specs.Lengths.{literalArray}
 use Rattle.definitions.specs.Lists.{all}
-use Rattle.encoding.specs.Values.{falseWord}
+use Rattle.encoding.specs.Values.{Values, falseWord}
 use Rattle.encoding.specs.ArrayLaws.{part-cons, part-nil, getD-rising}
 use Rattle.units.specs.Scan.{look}
 use Rattle.units.specs.Units.{clauseAt, maySet, actAt, actFrom, ClausesFit}
@@ -19,11 +19,11 @@ use Rattle.units.specs.declared.UnitAct.the-variants.{Conflict, Force, N
 
 -- ── the loop over words ──
 
-pub false-start : (values words : List ℕ) (from count : ℕ)
+pub false-start : (values : Values) (words : List ℕ) (from count : ℕ)
     → all (falseWord values) (take (from + count - from) (drop from words)) ≡ all (falseWord values) (take count (drop from words))
 false-start values words from count = let e : from + count - from ≡ count = omega arith in rw e
 
-module _ (values words : List ℕ) (end i : ℕ) {b : Bool} (left : all (falseWord values) (take (end - i) (drop i words)) ≡ b) where
+module _ (values : Values) (words : List ℕ) (end i : ℕ) {b : Bool} (left : all (falseWord values) (take (end - i) (drop i words)) ≡ b) where
   module _ (less : i < end) (fits : end ≤ length words) {r : Bool} (value : r ≡ falseWord values (getD words i 0)) where
     first : (r && all (falseWord values) (take (end - (i + 1)) (drop (i + 1) words))) ≡ b
     unfolding all
@@ -68,7 +68,7 @@ module _ {starts literals heads : List ℕ} {given : ℕ} where
 
 -- ── what clause c asks for ──
 
-module _ (values starts literals heads : List ℕ) (given goals c : ℕ) where
+module _ (values : Values) (starts literals heads : List ℕ) (given goals c : ℕ) where
   -- what it may set
   module _ (w : ℕ) {word : ℕ} (same : word ≡ w) where
     pub may-goal : word < 2 * goals → true ≡ maySet values starts literals heads given goals c w
@@ -106,7 +106,7 @@ module _ (values starts literals heads : List ℕ) (given goals c : ℕ) where
 
 -- ── the loop over the clauses ──
 
-module _ (values starts literals heads : List ℕ) (given goals : ℕ) where
+module _ (values : Values) (starts literals heads : List ℕ) (given goals : ℕ) where
   pub act-start : (n : ℕ) → actFrom values starts literals heads given goals 0 (n - 0) ≡ actFrom values starts literals heads given goals 0 n
   act-start n = let e : n - 0 ≡ n = omega arith in rw e
 

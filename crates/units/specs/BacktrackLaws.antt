@@ -16,7 +16,7 @@ use Rattle.theory.specs.ListLaws.{at-split, in-along}
 use Rattle.theory.specs.WordLaws.{negate-atom}
 use Rattle.theory.specs.SearchLaws.{by-why}
 use Rattle.encoding.specs.Encoding.{literalWord}
-use Rattle.encoding.specs.Values.{assigned}
+use Rattle.encoding.specs.Values.{Values, assigned}
 use Rattle.units.specs.TrailWords.{markOf, latestDecision, cleared, TrailStands}
 use Rattle.units.specs.LiteralWords.{word-small, word-even, word-next}
 use Rattle.units.specs.Stacks.{Stacked, fits, pop, pop-all, top, length-cleared}
@@ -61,7 +61,7 @@ different-below [] t d = d
 different-below (e ∷ above) t d = different-below above t (d .1)
 
 -- a decision, which stands at true, is undone with all that was set since, and its atom is set false
-flip-stands : {table : List Atom} (since : Trail) (e : Entry) (before : Trail) {values trail marks : List ℕ} → Room table values trail marks
+flip-stands : {table : List Atom} (since : Trail) (e : Entry) (before : Trail) {values : Values} {trail marks : List ℕ} → Room table values trail marks
     → TrailStands table (since ++ (e ∷ before)) values trail marks → EntriesEntered table (since ++ (e ∷ before)) → SetOnce (since ++ (e ∷ before))
     → e .literal ≡ plain (e .literal .atom)
     → TrailStands table (record { literal = negate (e .literal); why = flipped } ∷ before)
@@ -83,7 +83,7 @@ abbrev pub DecidedTrue : Trail → Type 0
 DecidedTrue t = (e : Entry) → e ∈ t → e .why ≡ decided → e .literal ≡ plain (e .literal .atom)
 
 -- the scan over the marks finds no decision just where there is none to undo, and else tells how long the trail is afterwards
-module _ {table : List Atom} {t : Trail} {values trail marks : List ℕ} (s : TrailStands table t values trail marks) where
+module _ {table : List Atom} {t : Trail} {values : Values} {trail marks : List ℕ} (s : TrailStands table t values trail marks) where
   pub backtrack-none-zero : backtrack t ≡ none → latestDecision marks (length t) ≡ 0
   backtrack-none-zero h = decision-places marks t (s .whys) .0 h
 
@@ -97,14 +97,14 @@ module _ {table : List Atom} {t : Trail} {values trail marks : List ℕ} (s : Tr
       (λ u h. let y : ⊥ = omega (arith, backtrack-some-length h, ap length (find-latest t u h .after)) in absurd y)
 
 -- the decision before place n, whose word is w, is the one that backtracking sets to false; its negation's word is the next
-pub record Backtracked (table : List Atom) (t u : Trail) (values trail marks : List ℕ) (n w : ℕ) : Type 0 where
+pub record Backtracked (table : List Atom) (t u : Trail) (values : Values) (trail marks : List ℕ) (n w : ℕ) : Type 0 where
   pub positive : 0 < n
   pub size : length u ≡ n
   pub within : n ≤ length t
   pub small : w + 1 < 512
   pub stands : TrailStands table u (assigned (cleared values (take (length t - (n - 1)) (drop (n - 1) trail))) (w + 1)) (set trail (n - 1) (w + 1)) (set marks (n - 1) (markOf flipped))
 
-pub backtrack-stands : {table : List Atom} {t u : Trail} {values trail marks : List ℕ} {n w : ℕ} → Room table values trail marks → TrailStands table t values trail marks
+pub backtrack-stands : {table : List Atom} {t u : Trail} {values : Values} {trail marks : List ℕ} {n w : ℕ} → Room table values trail marks → TrailStands table t values trail marks
     → EntriesEntered table t → SetOnce t → DecidedTrue t → backtrack t ≡ some u → n ≡ latestDecision marks (length t) → w ≡ getD trail (n - 1) 0
     → Backtracked table t u values trail marks n w
 backtrack-stands {table} {t} {u} {values} {trail} {marks} {n} {w} r s g d p h en ew = back (find-latest t u h) (en ∙ backtrack-some-length s h)

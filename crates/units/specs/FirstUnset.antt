@@ -13,11 +13,11 @@ use Rattle.theory.specs.Tests.{by-test, apart, true-and-false, none≢some}
 use Rattle.theory.specs.ListLaws.{at-split, in-along, Different, find-in, find-passes}
 use Rattle.theory.specs.WordLaws.{sameAtom-eq, sameAtom-refl}
 use Rattle.theory.specs.TableLaws.{position-inside, position-append, position-behind}
-use Rattle.encoding.specs.Values.{unsetAt}
+use Rattle.encoding.specs.Values.{Values, unsetAt}
 use Rattle.encoding.specs.TruthLaws.{unset-at}
 use Rattle.units.specs.TrailWords.{firstUnset, TrailStands}
 
-module _ (t : Trail) (values : List ℕ) where
+module _ (t : Trail) (values : Values) where
   -- from a place on, just the unset atoms are unset
   abbrev Row : ℕ → List Atom → Type 0
   Row at goals = (before after : List Atom) (a : Atom) → goals ≡ before ++ (a ∷ after) → unsetAt values (at + length before) ≡ isUnset t (plain a)
@@ -70,7 +70,7 @@ not-before (b ∷ bs) after d m =
     ]
 
 -- the goal atoms stand first in the table
-module _ (goals created : List Atom) (different : Different (goals ++ created)) {t : Trail} {values trail marks : List ℕ} (s : TrailStands (goals ++ created) t values trail marks) where
+module _ (goals created : List Atom) (different : Different (goals ++ created)) {t : Trail} {values : Values} {trail marks : List ℕ} (s : TrailStands (goals ++ created) t values trail marks) where
   goal-row : Row t values 0 goals
   goal-row before after a q =
       let m : a ∈ goals = in-along q (at-split before after) in

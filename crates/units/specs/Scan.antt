@@ -3,7 +3,7 @@ use Prim.Native.Nat.{ℕ}
 use mathlib.Core.Bool.{true, false}
 use mathlib.Core.List.{List, [], _∷_}
 use lib.Dec.{eqb}
-use Rattle.encoding.specs.Values.{Value, isTrueValue, isFalseValue, literalValue}
+use Rattle.encoding.specs.Values.{Value, Values, isTrueValue, isFalseValue, literalValue}
 use Rattle.units.specs.declared.Seen.{Seen}
 use Rattle.units.specs.declared.Seen.the-variants.{AllFalse, One, Open}
 
@@ -17,9 +17,9 @@ unfoldable pub seenWith : Seen → ℕ → Value → Seen
 seenWith seen w v = elim (isFalseValue v) [ true ↦ seen | false ↦ elim (isTrueValue v) [ true ↦ Open | false ↦ unsetToo seen w ] ]
 
 -- the words of a clause, after what was seen already
-unfoldable pub seenFrom : List ℕ → Seen → List ℕ → Seen
+unfoldable pub seenFrom : Values → Seen → List ℕ → Seen
 seenFrom values seen [] = seen
 seenFrom values seen (w ∷ ws) = seenFrom values (seenWith seen w (literalValue values w)) ws
 
-unfoldable pub look : List ℕ → List ℕ → Seen
+unfoldable pub look : Values → List ℕ → Seen
 look values ws = seenFrom values AllFalse ws

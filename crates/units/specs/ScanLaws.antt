@@ -15,7 +15,7 @@ use Rattle.theory.specs.ListLaws.{all-each}
 use Rattle.theory.specs.WordLaws.{negate-atom}
 use Rattle.theory.specs.SearchLaws.{unset-not-true, unset-not-false, unset-of, negated-false, Alone, conflict-false, force-unit, false-conflict, unit-force}
 use Rattle.encoding.specs.Encoding.{literalWord, clauseWords}
-use Rattle.encoding.specs.Values.{literalValue, trueWord, falseWord}
+use Rattle.encoding.specs.Values.{Values, literalValue, trueWord, falseWord}
 use Rattle.units.specs.Scan.{unsetToo, seenWith, seenFrom, look}
 use Rattle.encoding.specs.Standing.{Valued}
 use Rattle.encoding.specs.TruthLaws.{Consistent, by-truth, true-word, false-word}
@@ -166,7 +166,7 @@ module _ (table : List Atom) (t : Trail) (consistent : Consistent t) where
 
 -- ── what the words of a clause say ──
 
-module _ (table : List Atom) (t : Trail) (values : List ℕ) (consistent : Consistent t) (valued : Valued table t values) where
+module _ (table : List Atom) (t : Trail) (values : Values) (consistent : Consistent t) (valued : Valued table t values) where
   -- a head is true just where the word of its negation is false, and so are all heads
   head-false : (h : Literal) → h .atom ∈ table → falseWord values (literalWord table (negate h)) ≡ isTrue t h
   head-false h m = false-word table t values valued consistent (negate h) (Memᴰ·cast (negate-atom h) m) ∙ negated-false t h

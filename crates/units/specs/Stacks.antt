@@ -9,7 +9,7 @@ use lib.Seq.{take-suc, take-at, getD-at, take-take, take-suc-set, getD-take, get
 use borrow.Author.Tests.{eqb-true, eqb-false}
 use Rattle.definitions.specs.Lists.{_∈_}
 use Rattle.theory.specs.Tests.{by-test}
-use Rattle.encoding.specs.Values.{unassigned}
+use Rattle.encoding.specs.Values.{Values, unassigned}
 use Rattle.encoding.specs.ValueLaws.{length-unassigned, unassigned-either}
 use Rattle.units.specs.TrailWords.{cleared}
 
@@ -71,23 +71,23 @@ part-more xs n m h k =
 
 -- ── clearing ──
 
-pub length-cleared : (values ws : List ℕ) → length (cleared values ws) ≡ length values
+pub length-cleared : (values : Values) (ws : List ℕ) → length (cleared values ws) ≡ length values
 unfolding cleared
 length-cleared values [] = refl
 length-cleared values (w ∷ ws) = length-cleared (unassigned values w) ws ∙ length-unassigned values w
 
-cleared-last : (values ws : List ℕ) (w : ℕ) → cleared values (ws ++ (w ∷ [])) ≡ unassigned (cleared values ws) w
+cleared-last : (values : Values) (ws : List ℕ) (w : ℕ) → cleared values (ws ++ (w ∷ [])) ≡ unassigned (cleared values ws) w
 unfolding cleared
 cleared-last values [] w = refl
 cleared-last values (v ∷ ws) w = cleared-last (unassigned values v) ws w
 
-cleared-first : (values ws : List ℕ) (v : ℕ) → cleared (unassigned values v) ws ≡ unassigned (cleared values ws) v
+cleared-first : (values : Values) (ws : List ℕ) (v : ℕ) → cleared (unassigned values v) ws ≡ unassigned (cleared values ws) v
 unfolding cleared
 cleared-first values [] v = refl
-cleared-first values (w ∷ ws) v = ap (λ (u : List ℕ). cleared u ws) (unassigned-either values v w) ∙ cleared-first (unassigned values w) ws v
+cleared-first values (w ∷ ws) v = ap (λ (u : Values). cleared u ws) (unassigned-either values v w) ∙ cleared-first (unassigned values w) ws v
 
 -- clearing a part of the trail, its last place first
-pub cleared-latest : (values trail : List ℕ) (n m : ℕ) {w : ℕ} → n ≤ m → m < length trail → getD trail m 0 ≡ w
+pub cleared-latest : (values : Values) (trail : List ℕ) (n m : ℕ) {w : ℕ} → n ≤ m → m < length trail → getD trail m 0 ≡ w
     → cleared values (take (suc m - n) (drop n trail)) ≡ cleared (unassigned values w) (take (m - n) (drop n trail))
 cleared-latest values trail n m h k q =
     ap (cleared values) (part-more trail n m h k)

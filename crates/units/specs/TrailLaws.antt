@@ -16,7 +16,7 @@ use Rattle.theory.specs.SearchLaws.{true-at, at-true, unset-not-false, unset-of
 use Rattle.theory.specs.TableLaws.{apart-atoms, position-inside, position-injective, position-append, position-behind}
 use Rattle.encoding.specs.PositionLaws.{literal-word-append}
 use Rattle.encoding.specs.Encoding.{literalWord}
-use Rattle.encoding.specs.Values.{unsetValue, valueAt, noValues, assigned, unassigned}
+use Rattle.encoding.specs.Values.{Value, unsetValue, Values, valueAt, noValues, assigned, unassigned}
 use Rattle.encoding.specs.ValueLaws.{assigned-even, assigned-odd, assigned-elsewhere, unassigned-here, unassigned-elsewhere, length-unassigned, no-value}
 use Rattle.encoding.specs.Standing.{truth, Valued}
 use Rattle.encoding.specs.TruthLaws.{truth-true, truth-false, truth-unset}
@@ -51,11 +51,11 @@ truth-other e t a n =
     cc (true-other e t (plain a) (λ q. n (ap (λ (x : Literal). x .atom) q ∙ plain-atom a)), true-other e t (negate (plain a)) (λ q. n (ap (λ (x : Literal). x .atom) q ∙ negate-atom (plain a) ∙ plain-atom a)))
 
 -- and its own atom has the value that setting its literal gives
-module _ (table : List Atom) (values : List ℕ) (e : Entry) (t : Trail) (inside : position table (e .literal .atom) < length values) where
+module _ (table : List Atom) (values : Values) (e : Entry) (t : Trail) (inside : position table (e .literal .atom) < length values) where
   abbrev its : Atom
   its = e .literal .atom
 
-  abbrev stored : ℕ → ℕ
+  abbrev stored : ℕ → Value
   stored w = valueAt (assigned values w) (position table its)
 
   stored-plain : e .literal ≡ plain its → stored (literalWord table (e .literal)) ≡ truth (e ∷ t) (plain its)
@@ -84,19 +84,19 @@ abbrev pub entryMark : Entry → ℕ
 entryMark e = markOf (e .why)
 
 -- the arrays have their sizes
-pub record Room (table : List Atom) (values trail marks : List ℕ) : Type 0 where
+pub record Room (table : List Atom) (values : Values) (trail marks : List ℕ) : Type 0 where
   pub table-size : length table ≤ 256
   pub values-size : length values ≡ 256
   pub trail-size : length trail ≡ 256
   pub marks-size : length marks ≡ 256
 
 -- arrays of the same lengths have them too
-pub room-kept : {table : List Atom} {values trail marks values′ trail′ marks′ : List ℕ} → Room table values trail marks
+pub room-kept : {table : List Atom} {values : Values} {trail marks : List ℕ} {values′ : Values} {trail′ marks′ : List ℕ} → Room table values trail marks
     → length values′ ≡ length values → length trail′ ≡ length trail → length marks′ ≡ length marks → Room table values′ trail′ marks′
 room-kept r v t m = record { table-size = r .table-size; values-size = v ∙ r .values-size; trail-size = t ∙ r .trail-size; marks-size = m ∙ r .marks-size }
 
 -- the values change at a literal's atom alone; a trail that differs at this atom alone has them then
-module _ (table : List Atom) (values values′ : List ℕ) (l : Literal) (inside : l .atom ∈ table)
+module _ (table : List Atom) (values values′ : Values) (l : Literal) (inside : l .atom ∈ table)
     (others : (i : ℕ) → (literalWord table l / 2 ≡ i → ⊥) → valueAt values′ i ≡ valueAt values i) where
   changed-outside : ((i : ℕ) → length table ≤ i → valueAt values i ≡ unsetValue) → (i : ℕ) → length table ≤ i → valueAt values′ i ≡ unsetValue
   changed-outside o i h = others i (λ q. omega (arith, q, h, word-half table l, position-inside table (l .atom) inside)) ∙ o i h
@@ -113,7 +113,7 @@ module _ (table : List Atom) (values values′ : List ℕ) (l : Literal) (inside
       ∙ sym (elsewhere a n))
 
 -- an unset literal of the table is set
-pub set-stands : {table : List Atom} {t : Trail} {values trail marks : List ℕ} → Room table values trail marks → TrailStands table t values trail marks
+pub set-stands : {table : List Atom} {t : Trail} {values : Values} {trail marks : List ℕ} → Room table values trail marks → TrailStands table t values trail marks
     → (l : Literal) (y : Why) → isUnset t l ≡ true → l .atom ∈ table → length t < 256
     → TrailStands table (record { literal = l; why = y } ∷ t) (assigned values (literalWord table l)) (set trail (length t) (literalWord table l)) (set marks (length t) (markOf y))
 set-stands {table} {t} {values} {trail} {marks} r s l y u m h =
@@ -141,13 +141,13 @@ abbrev pub SetOnce : Trail → Type 0
 SetOnce t = Different (map (λ (e : Entry). e .literal .atom) t)
 
 -- every word in use is below 512
-pub words-small : {table : List Atom} {t : Trail} {values trail marks : List ℕ} → length table ≤ 256 → TrailStands table t values trail marks → EntriesEntered table t
+pub words-small : {table : List Atom} {t : Trail} {values : Values} {trail marks : List ℕ} → length table ≤ 256 → TrailStands table t values trail marks → EntriesEntered table t
     → (i : ℕ) → i < length t → getD trail i 0 < 512
 words-small {table} {t} {trail = trail} h s g =
     each-place (entryWord table) (λ (w : ℕ). w < 512) t trail (s .words) (λ e m. word-small table (e .literal) h (g e m))
 
 -- the latest entry is undone
-unset-latest : {table : List Atom} {e : Entry} {t : Trail} {values trail marks : List ℕ} → length table ≤ length values → TrailStands table (e ∷ t) values trail marks
+unset-latest : {table : List Atom} {e : Entry} {t : Trail} {values : Values} {trail marks : List ℕ} → length table ≤ length values → TrailStands table (e ∷ t) values trail marks
     → e .literal .atom ∈ table → (e .literal .atom ∈ map atomOf t → ⊥)
     → TrailStands table t (unassigned values (literalWord table (e .literal))) trail marks
 unset-latest {table} {e} {t} {values} {trail} {marks} h s m n =
@@ -167,7 +167,7 @@ unset-latest {table} {e} {t} {values} {trail} {marks} h s m n =
     w = literalWord table (e .literal)
 
 -- what stands above a trail is undone
-pub undo-stands : {table : List Atom} (above t : Trail) {values trail marks : List ℕ} → Room table values trail marks → TrailStands table (above ++ t) values trail marks
+pub undo-stands : {table : List Atom} (above t : Trail) {values : Values} {trail marks : List ℕ} → Room table values trail marks → TrailStands table (above ++ t) values trail marks
     → EntriesEntered table (above ++ t) → SetOnce (above ++ t)
     → TrailStands table t (cleared values (take (length (above ++ t) - length t) (drop (length t) trail))) trail marks
 unfolding cleared
@@ -182,7 +182,7 @@ undo-stands {table} (e ∷ above) t {values} {trail} {marks} r s g d =
 -- ── the table grows ──
 
 -- a new atom has no value yet
-pub grown-stands : {table : List Atom} {t : Trail} {values trail marks : List ℕ} → TrailStands table t values trail marks → EntriesEntered table t
+pub grown-stands : {table : List Atom} {t : Trail} {values : Values} {trail marks : List ℕ} → TrailStands table t values trail marks → EntriesEntered table t
     → (a : Atom) → (a ∈ table → ⊥) → TrailStands (table ++ (a ∷ [])) t values trail marks
 grown-stands {table} {t} {values} s g a n =
     record {

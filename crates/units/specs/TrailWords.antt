@@ -8,7 +8,7 @@ use lib.ListN.{length, getD, take}
 use Rattle.definitions.specs.Words.{Atom}
 use Rattle.definitions.specs.Search.{Why, decided, flipped, forced, Entry, Trail}
 use Rattle.encoding.specs.Encoding.{literalWord}
-use Rattle.encoding.specs.Values.{unsetValue, valueAt, unsetAt, unassigned}
+use Rattle.encoding.specs.Values.{unsetValue, Values, valueAt, unsetAt, unassigned}
 use Rattle.encoding.specs.Standing.{Valued}
 
 -- why a word was set
@@ -23,17 +23,17 @@ latestDecision marks zero = 0
 latestDecision marks (suc n) = elim (eqb (getD marks n 0) (markOf decided)) [ true ↦ suc n | false ↦ latestDecision marks n ]
 
 -- the values once the words are unset
-unfoldable pub cleared : List ℕ → List ℕ → List ℕ
+unfoldable pub cleared : Values → List ℕ → Values
 cleared values [] = values
 cleared values (w ∷ ws) = cleared (unassigned values w) ws
 
 -- the first unset position among the first, or their number
-unfoldable pub firstUnset : List ℕ → ℕ → ℕ → ℕ
+unfoldable pub firstUnset : Values → ℕ → ℕ → ℕ
 firstUnset values at zero = at
 firstUnset values at (suc n) = elim (unsetAt values at) [ true ↦ at | false ↦ firstUnset values (suc at) n ]
 
 -- the arrays stand for a trail: its words and marks, earliest first, and the values of all atoms
-pub record TrailStands (table : List Atom) (t : Trail) (values trail marks : List ℕ) : Type 0 where
+pub record TrailStands (table : List Atom) (t : Trail) (values : Values) (trail marks : List ℕ) : Type 0 where
   pub words : take (length t) trail ≡ map (λ (e : Entry). literalWord table (e .literal)) (reverse t)
   pub whys : take (length t) marks ≡ map (λ (e : Entry). markOf (e .why)) (reverse t)
   pub valued : Valued table t values

@@ -19,7 +19,7 @@ use Rattle.theory.specs.SearchLaws.{clause-head, isGoal-in, in-isGoal, mayLogge
 use Rattle.theory.specs.TableLaws.{position-inside, position-append}
 use Rattle.encoding.specs.Encoding.{literalWord, clauseWords}
 use Rattle.theory.specs.PlaceLaws.{getElem-in}
-use Rattle.encoding.specs.Values.{falseWord}
+use Rattle.encoding.specs.Values.{Values, falseWord}
 use Rattle.units.specs.Scan.{look}
 use Rattle.units.specs.Units.{clauseAt, maySet, actAt, actFrom}
 use Rattle.encoding.specs.Standing.{Valued}
@@ -59,7 +59,7 @@ goal-word k table created l e =
 
 -- ── step A ──
 
-module _ (table : List Atom) (t : Trail) (values : List ℕ) (consistent : Consistent t) (valued : Valued table t values) where
+module _ (table : List Atom) (t : Trail) (values : Values) (consistent : Consistent t) (valued : Valued table t values) where
   -- a clause whose words stand at n does there what it asks for, where what may be set is the same
   act-of : (starts literals heads : List ℕ) (given goals n : ℕ) (may : Literal → Bool) (c : Clause) → ((l : Literal) → l ∈ c → l .atom ∈ table)
       → clauseAt starts literals n ≡ clauseWords table c
@@ -75,7 +75,7 @@ module _ (table : List Atom) (t : Trail) (values : List ℕ) (consistent : Consi
       cases Open q h = cc (h may)
 
 -- the first act of the clauses from c on, and of those behind them
-module _ {A : Type 0} (values starts literals heads : List ℕ) (given goals : ℕ) (table : List Atom) (f : A → Option Act) where
+module _ {A : Type 0} (values : Values) (starts literals heads : List ℕ) (given goals : ℕ) (table : List Atom) (f : A → Option Act) where
   abbrev first-of : Option Act → Rattle.units.specs.declared.UnitAct.UnitAct → Rattle.units.specs.declared.UnitAct.UnitAct
   first-of none b = b
   first-of (some a) b = actWord table (some a)
@@ -111,7 +111,7 @@ take-more ws h n w l m =
     subst (λ (xs : List ℕ). w ∈ xs) (sym (take-add n (h - n) ws) ∙ ap (λ (i : ℕ). take i ws) e) (Memᴰ·append-left (take (h - n) (drop n ws)) m)
 
 -- the table is the goal atoms and then others, it has the atoms of the log, and the arrays stand for the state
-module _ (k : Task) (s : State) (created : List Atom) (values starts literals heads : List ℕ)
+module _ (k : Task) (s : State) (created : List Atom) (values : Values) (starts literals heads : List ℕ)
     (split : s .table ≡ goalAtoms (k .clauses) ++ created)
     (entered : (g : Logged) → g ∈ s .log → (l : Literal) → l ∈ clauseOf g → l .atom ∈ s .table)
     (consistent : Consistent (s .trail))

@@ -6,7 +6,7 @@ use lib.Dec.{ltb}
 use lib.ListN.{getD, take, drop}
 use Rattle.encoding.specs.Lengths.{literalArray}
 use Rattle.definitions.specs.Lists.{all}
-use Rattle.encoding.specs.Values.{falseWord}
+use Rattle.encoding.specs.Values.{Values, falseWord}
 use Rattle.units.specs.Scan.{look}
 use Rattle.units.specs.declared.Seen.the-variants.{AllFalse, One, Open}
 use Rattle.units.specs.declared.UnitAct.{UnitAct}
@@ -17,13 +17,13 @@ unfoldable pub clauseAt : List ℕ → List ℕ → ℕ → List ℕ
 clauseAt starts literals c = take (getD starts (c + 1) 0 - getD starts c 0) (drop (getD starts c 0) literals)
 
 -- clause c may set the literal: a goal atom, or all head literals of its instance are true, so the first words are false
-unfoldable pub maySet : List ℕ → List ℕ → List ℕ → List ℕ → ℕ → ℕ → ℕ → ℕ → Bool
+unfoldable pub maySet : Values → List ℕ → List ℕ → List ℕ → ℕ → ℕ → ℕ → ℕ → Bool
 maySet values starts literals heads goalClauses goals c w =
     ltb w (2 * goals)
     || (not (ltb c goalClauses) && all (falseWord values) (take (getD heads (c - goalClauses) 0) (drop (getD starts c 0) literals)))
 
 -- what clause c asks for
-unfoldable pub actAt : List ℕ → List ℕ → List ℕ → List ℕ → ℕ → ℕ → ℕ → UnitAct
+unfoldable pub actAt : Values → List ℕ → List ℕ → List ℕ → ℕ → ℕ → ℕ → UnitAct
 actAt values starts literals heads goalClauses goals c =
     elim (look values (clauseAt starts literals c)) [
       | AllFalse ↦ Conflict
@@ -32,7 +32,7 @@ actAt values starts literals heads goalClauses goals c =
     ]
 
 -- the first act of so many clauses, from clause c on
-unfoldable pub actFrom : List ℕ → List ℕ → List ℕ → List ℕ → ℕ → ℕ → ℕ → ℕ → UnitAct
+unfoldable pub actFrom : Values → List ℕ → List ℕ → List ℕ → ℕ → ℕ → ℕ → ℕ → UnitAct
 actFrom values starts literals heads goalClauses goals c zero = Nothing
 actFrom values starts literals heads goalClauses goals c (suc n) =
     elim (actAt values starts literals heads goalClauses goals c) [

@@ -9,11 +9,11 @@ ghost use Rattle.encoding.specs.Lengths.{literalArray};
 ghost use Rattle.definitions.specs.Lists.{all};
 ghost use Rattle.encoding.specs.Values.{falseWord};
 ghost use Rattle.units.specs.Units.{maySet, actAt, actFrom, ClausesFit};
-use encoding::ATOMS;
 use encoding::LITERALS;
 use encoding::LOGGED;
 use encoding::STARTS;
 use encoding::values;
+use encoding::values::Values;
 
 // What the literals of a clause say so far: all false; one unset, the others false; a true one or two unset ones.
 pub enum Seen {
@@ -30,7 +30,7 @@ pub enum UnitAct {
 }
 
 // Whether so many words from a place on are all false.
-fn all_false(values: &[u8; ATOMS], literals: &[u16; LITERALS], from: usize, count: usize) -> bool
+fn all_false(values: &Values, literals: &[u16; LITERALS], from: usize, count: usize) -> bool
     requires { ⌜ (from + count ≤ literalArray) × ((i : ℕ) → i < from + count → getD (now literals) i 0 < 512) ⌝ }
     ensures { λ r. ⌜ r ≡ all (falseWord (now (values .entry))) (take count (drop from (now (literals .entry)))) ⌝ }
 {
@@ -49,7 +49,7 @@ fn all_false(values: &[u8; ATOMS], literals: &[u16; LITERALS], from: usize, coun
 
 // Whether clause c may set the literal.
 fn may_set(
-    values: &[u8; ATOMS],
+    values: &Values,
     starts: &[u16; STARTS],
     literals: &[u16; LITERALS],
     heads: &[u8; LOGGED],
@@ -75,7 +75,7 @@ fn may_set(
 
 // What clause c asks for.
 fn act_at(
-    values: &[u8; ATOMS],
+    values: &Values,
     starts: &[u16; STARTS],
     literals: &[u16; LITERALS],
     heads: &[u8; LOGGED],
@@ -103,7 +103,7 @@ fn act_at(
 
 // Step A over the first clauses.
 pub fn next_act(
-    values: &[u8; ATOMS],
+    values: &Values,
     starts: &[u16; STARTS],
     literals: &[u16; LITERALS],
     heads: &[u8; LOGGED],

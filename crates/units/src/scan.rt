@@ -5,10 +5,10 @@ ghost use lib.ListN.{getD, take, drop};
 ghost use Rattle.encoding.specs.Lengths.{literalArray};
 ghost use Rattle.units.specs.Scan.{seenWith, look};
 use crate::Seen;
-use encoding::ATOMS;
 use encoding::LITERALS;
 use encoding::values;
 use encoding::values::Value;
+use encoding::values::Values;
 
 // One literal more of a clause.
 fn seen_with(seen: Seen, w: u16, v: Value) -> Seen
@@ -28,7 +28,7 @@ fn seen_with(seen: Seen, w: u16, v: Value) -> Seen
 }
 
 // What the words from one place up to another say.
-pub fn look_at(values: &[u8; ATOMS], literals: &[u16; LITERALS], from: usize, end: usize) -> Seen
+pub fn look_at(values: &Values, literals: &[u16; LITERALS], from: usize, end: usize) -> Seen
     requires { ⌜ (from ≤ end) × (end ≤ literalArray) × ((i : ℕ) → i < end → getD (now literals) i 0 < 512) ⌝ }
     ensures { λ r. ⌜ r ≡ look (now (values .entry)) (take (end - from) (drop from (now (literals .entry)))) ⌝ }
 {

@@ -6,6 +6,7 @@ ghost use Rattle.encoding.specs.Values.{assigned};
 ghost use Rattle.units.specs.TrailWords.{latestDecision, cleared, firstUnset};
 use encoding::ATOMS;
 use encoding::values;
+use encoding::values::Values;
 
 // Why a literal is set: by a clause, by a decision that stands at true, by one that was set to false.
 pub const FORCED: u8 = 0;
@@ -16,7 +17,7 @@ pub const FLIPPED: u8 = 2;
 
 // Sets a literal, with why it is set, behind the first n entries.
 pub fn set_literal(
-    values: &mut [u8; ATOMS],
+    values: &mut Values,
     trail: &mut [u16; ATOMS],
     marks: &mut [u8; ATOMS],
     n: usize,
@@ -48,7 +49,7 @@ pub fn latest_decision(marks: &[u8; ATOMS], n: usize) -> usize
 }
 
 // Unsets the entries from one place up to another.
-pub fn undo(values: &mut [u8; ATOMS], trail: &[u16; ATOMS], from: usize, n: usize)
+pub fn undo(values: &mut Values, trail: &[u16; ATOMS], from: usize, n: usize)
     requires { ⌜ (from ≤ n) × (n ≤ 256) × (n ≤ length (now trail)) × ((i : ℕ) → i < n → getD (now trail) i 0 < 512) ⌝ }
     ensures { λ _. ⌜ now (values .exit) ≡ cleared (now (values .entry)) (take (n - from) (drop from (now (trail .entry)))) ⌝ }
 {
@@ -61,7 +62,7 @@ pub fn undo(values: &mut [u8; ATOMS], trail: &[u16; ATOMS], from: usize, n: usiz
 }
 
 // The first unset position among the first, or their number.
-pub fn first_unset(values: &[u8; ATOMS], goals: usize) -> usize
+pub fn first_unset(values: &Values, goals: usize) -> usize
     requires { ⌜ goals ≤ 256 ⌝ }
     ensures { λ r. ⌜ r ≡ firstUnset (now (values .entry)) 0 goals ⌝ }
 {
