@@ -21,6 +21,7 @@ use encoding::LITERALS;
 use encoding::LOGGED;
 use encoding::STARTS;
 use encoding::SYMBOLS;
+use encoding::values;
 use encoding::values::Values;
 use machine::Ended;
 use pipe::Reached;
@@ -132,7 +133,7 @@ pub fn answered(sheet: &[u8], budget: u32, room: &mut [u8], cnf: &mut [u8], want
     let mut literals = [0u16; LITERALS];
     let mut numbers = [0u8; LOGGED];
     let mut table = [0u32; ATOMS];
-    let mut values: Values = [0; ATOMS];
+    let mut values = [values::UNSET_STATE; ATOMS];
     match pipe::search_sheet(
         sheet,
         budget,

@@ -6,6 +6,7 @@ pub mod Meaning
 pub mod Sheet
 pub mod Questions
 pub mod Search
+pub mod LiteralTest
 pub mod Verdicts
 pub mod Listing
 pub mod Text

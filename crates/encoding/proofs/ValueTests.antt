@@ -1,52 +1,117 @@
--- Values in the code's terms: what each way through the tests gives, at the word as it was widened. Assumes nothing.
-use Prim.Native.Nat.{ℕ, _+_, _/_, _%_}
-use mathlib.Core.Path.{_≡_}
+-- Values in the code's terms: a sign and its product with a state, as the machine's bits give them, and what each test of a value comes to.
+-- Assumes nothing.
+use Prim.Native.Nat.{ℕ, zero, suc, _*_, _/_, _%_, _<_}
+use mathlib.Core.Path.{_≡_, refl, sym, ap, _∙_, subst}
+use native.Mathlib.Omega.{arith}
 use lib.Dec.{eqb}
-use lib.ListN.{getD, set}
-use borrow.Author.Tests.{eq-eqb, ne-eqb}
-use Rattle.encoding.specs.Values.{Value, Values, unsetValue, trueValue, falseValue, isUnsetValue, isTrueValue, isFalseValue, opposite, valueAt, unsetAt, literalValue, trueWord, falseWord, assigned, unassigned}
-use Rattle.encoding.specs.ValueLaws.{is-true, other-than-true, is-false, other-than-false}
+use lib.IntN.{ℤ, pos, negsuc, negℤ, _-ℤ_, _*ℤ_}
+use lib.ListN.{set}
+use mir.Syntax.{w8, w32}
+use mir.Val.{SFits, toZ, ofZ}
+use mir.Facts.{sfits-lit, sfits-widen, toZ-ofZ}
+use Rattle.definitions.specs.LiteralTest.{Value, unsetValue, trueValue, falseValue}
+use Rattle.theory.specs.Tests.{by-test}
+use Rattle.theory.specs.TruthLaws.{one-times, minus-one-times}
+use Rattle.encoding.specs.Values.{Values, isUnsetValue, isTrueValue, isFalseValue, valueAt, unsetAt, wordSign, literalValue, trueWord, falseWord, assigned, unassigned}
+use Rattle.encoding.specs.ValueLaws.{bits-unset, bits-true, bits-false, even-sign}
 
-module _ (v : Value) where
-  pub opposite-true : v ≡ trueValue → falseValue ≡ opposite v
-  unfolding opposite
-  opposite-true e = cc (is-true v e)
+-- ── a sign ──
 
-  pub opposite-false : (v ≡ trueValue → ⊥) → v ≡ falseValue → trueValue ≡ opposite v
-  unfolding opposite
-  opposite-false n e = cc (other-than-true v n, is-false v e)
+-- twice a bit, and 1 less twice a bit, as they are computed
+abbrev twice : ℕ → ℤ
+twice b = toZ w32 2 *ℤ toZ w32 b
 
-  pub opposite-unset : (v ≡ trueValue → ⊥) → (v ≡ falseValue → ⊥) → unsetValue ≡ opposite v
-  unfolding opposite
-  opposite-unset n m = cc (other-than-true v n, other-than-false v m)
+abbrev lessTwice : ℕ → ℤ
+lessTwice b = toZ w32 1 -ℤ toZ w32 (ofZ w32 (twice b))
 
-pub unset-is : (values : Values) (at : ℕ) → eqb (getD values at 0) unsetValue ≡ unsetAt values at
-unfolding unsetAt valueAt isUnsetValue
-unset-is values at = cc
+pub twice-fits : (b : ℕ) → b < 2 → SFits w32 (twice b)
+twice-fits zero l = sfits-lit tt
+twice-fits (suc zero) l = sfits-lit tt
+twice-fits (suc (suc b)) l = absurd (omega arith)
 
-module _ (values : Values) (w : ℕ) where
-  module _ (v : Value) (its : v ≡ literalValue values w) where
-    pub true-is : eqb v trueValue ≡ trueWord values w
-    unfolding trueWord isTrueValue
-    true-is = cc
+pub less-twice-fits : (b : ℕ) → b < 2 → SFits w32 (lessTwice b)
+less-twice-fits zero l = sfits-lit tt
+less-twice-fits (suc zero) l = sfits-lit tt
+less-twice-fits (suc (suc b)) l = absurd (omega arith)
 
-    pub false-is : eqb v falseValue ≡ falseWord values w
-    unfolding falseWord isFalseValue
-    false-is = cc
+pub sign-is : (w b : ℕ) → b < 2 → w % 2 ≡ b → toZ w32 (ofZ w32 (lessTwice b)) ≡ wordSign w
+unfolding wordSign
+sign-is w zero l e = cc
+sign-is w (suc zero) l e = cc
+sign-is w (suc (suc b)) l e = absurd (omega arith)
 
-  module _ (word : ℕ) (same : word ≡ w) where
-    pub value-plain : word % 2 ≡ 0 → getD values (word / 2) 0 ≡ literalValue values w
-    unfolding literalValue valueAt
-    value-plain e = cc (eq-eqb (word % 2) 0 e)
+-- what holds of 1 and of -1 holds of a sign
+by-sign : (w : ℕ) (P : ℤ → Type 0) → P (pos 1) → P (negsuc 0) → P (wordSign w)
+unfolding wordSign
+by-sign w P a b = by-test (eqb (w % 2) 0) (λ e. rw (e, wordSign) a) (λ e. rw (e, wordSign) b)
 
-    pub value-negated : {r : ℕ} → (word % 2 ≡ 0 → ⊥) → r ≡ opposite (getD values (word / 2) 0) → r ≡ literalValue values w
-    unfolding literalValue valueAt
-    value-negated n e = cc (ne-eqb (word % 2) 0 n)
+sign-kept : (w : ℕ) → toZ w32 (ofZ w32 (wordSign w)) ≡ wordSign w
+sign-kept w = by-sign w (λ s. toZ w32 (ofZ w32 s) ≡ s) refl refl
 
-    pub assigned-is : set values (word / 2) (trueValue + word % 2) ≡ assigned values w
-    unfolding assigned
-    assigned-is = cc
+-- a sign as a state
+module _ (w : ℕ) {s : ℤ} (its : s ≡ wordSign w) where
+  pub sign-narrow : SFits w8 (toZ w32 (ofZ w32 s))
+  sign-narrow = rw (its, sign-kept w) (by-sign w (SFits w8) (sfits-lit tt) (sfits-lit tt))
 
-    pub unassigned-is : set values (word / 2) unsetValue ≡ unassigned values w
-    unfolding unassigned
-    unassigned-is = cc
+  pub sign-stored : toZ w8 (ofZ w8 (toZ w32 (ofZ w32 s))) ≡ wordSign w
+  sign-stored = rw (its, sign-kept w) (by-sign w (λ x. toZ w8 (ofZ w8 x) ≡ x) refl refl)
+
+-- ── a state ──
+
+-- read and widened
+module _ (z : ℤ) (fits : SFits w8 z) where
+  pub state-fits : SFits w32 (toZ w8 (ofZ w8 z))
+  state-fits = rw (toZ-ofZ fits) (sfits-widen {w = w8} tt fits)
+
+  pub state-is : toZ w32 (ofZ w32 (toZ w8 (ofZ w8 z))) ≡ z
+  state-is = toZ-ofZ state-fits ∙ toZ-ofZ fits
+
+-- ── a product ──
+
+negated-fits : (z : ℤ) → SFits w8 z → SFits w32 (negℤ z)
+negated-fits (pos zero) f = sfits-lit tt
+negated-fits (pos (suc n)) f = record { sfits = omega (arith, f .sfits) }
+negated-fits (negsuc n) f = record { sfits = omega (arith, f .sfits) }
+
+module _ {z : ℤ} (fits : SFits w8 z) (w : ℕ) {s : ℤ} (its : s ≡ wordSign w) where
+  times-fits : SFits w32 (wordSign w *ℤ z)
+  times-fits = by-sign w (λ x. SFits w32 (x *ℤ z)) (rw (one-times z) (sfits-widen {w = w8} tt fits)) (rw (minus-one-times z) (negated-fits z fits))
+
+  factors : toZ w32 (ofZ w32 s) *ℤ toZ w32 (ofZ w32 z) ≡ wordSign w *ℤ z
+  factors = rw (its, sign-kept w, toZ-ofZ {w = w32} (sfits-widen {w = w8} tt fits))
+
+  pub product-fits : SFits w32 (toZ w32 (ofZ w32 s) *ℤ toZ w32 (ofZ w32 z))
+  product-fits = subst (SFits w32) (sym factors) times-fits
+
+  pub product-is : toZ w32 (ofZ w32 (toZ w32 (ofZ w32 s) *ℤ toZ w32 (ofZ w32 z))) ≡ wordSign w *ℤ z
+  product-is = toZ-ofZ product-fits ∙ factors
+
+-- ── what the code comes to ──
+
+module _ (values : Values) (w at : ℕ) (its : at ≡ w / 2) where
+  pub value-is : {v z : Value} → z ≡ valueAt values at → v ≡ wordSign w *ℤ z → v ≡ literalValue values w
+  unfolding literalValue
+  value-is e f = cc
+
+  pub assigned-is : {v : Value} → v ≡ wordSign w → set values at v ≡ assigned values w
+  unfolding assigned
+  assigned-is e = cc
+
+  pub unassigned-is : set values at unsetValue ≡ unassigned values w
+  unfolding unassigned
+  unassigned-is = cc
+
+module _ (values : Values) {v : Value} (fits : SFits w32 v) where
+  pub true-is : (w : ℕ) → v ≡ literalValue values w → eqb (ofZ w32 v) (ofZ w32 trueValue) ≡ trueWord values w
+  unfolding trueWord
+  true-is w its = bits-true fits ∙ ap isTrueValue its
+
+  pub false-is : (w : ℕ) → v ≡ literalValue values w → eqb (ofZ w32 v) (ofZ w32 falseValue) ≡ falseWord values w
+  unfolding falseWord
+  false-is w its = bits-false fits ∙ ap isFalseValue its
+
+  pub unset-is : (at : ℕ) → v ≡ literalValue values (2 * at) → eqb (ofZ w32 v) (ofZ w32 unsetValue) ≡ unsetAt values at
+  unfolding unsetAt literalValue
+  unset-is at its =
+      let half : (2 * at) / 2 ≡ at = omega arith in
+      bits-unset fits ∙ ap isUnsetValue (its ∙ rw (even-sign (2 * at) (omega arith), half) (one-times (valueAt values at)))

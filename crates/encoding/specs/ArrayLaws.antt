@@ -1,4 +1,4 @@
--- Lists as arrays: what stands at a place of zeros, of a list whose elements have something in common, after a store, in a part, and in an
+-- Lists as arrays: what stands at a place of a repeated element, of a list whose elements have something in common, after a store, in a part, and in an
 -- array with a list at its front. Assumes nothing.
 use Prim.Native.Nat.{ℕ, zero, suc, _+_, _-_, _≤_, _<_}
 use mathlib.Core.Path.{_≡_, refl, sym, _∙_, ap}

@@ -15,8 +15,12 @@ Array = RefT (List ℕ)
 abbrev pub Lent : Type 0
 Lent = Both Array Array
 
+-- the states of atoms likewise
+abbrev pub ValueArray : Type 0
+ValueArray = RefT Values
+
 abbrev pub LentValues : Type 0
-LentValues = Both (RefT Values) (RefT Values)
+LentValues = Both ValueArray ValueArray
 
 -- how what is left stands to what was lent, and that it is made of it by a function
 abbrev pub Leaves : {A : Type 0} → (A → A → Type 0) → Both A A → Type 0

@@ -11,5 +11,5 @@ pub mod HoldLaws
 pub mod Values
 pub mod ValueLaws
 pub mod Standing
-pub mod TruthLaws
+pub mod WordTruths
 pub mod Lent

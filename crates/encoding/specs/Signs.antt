@@ -40,10 +40,10 @@ unfolding wordOf
 word-number true n = omega arith
 word-number false n = omega arith
 
-pub word-sign : (negative : Bool) (n : ℕ) → wordOf negative n % 2 ≡ wordOf negative 0
+pub word-bit : (negative : Bool) (n : ℕ) → wordOf negative n % 2 ≡ wordOf negative 0
 unfolding wordOf
-word-sign true n = omega arith
-word-sign false n = omega arith
+word-bit true n = omega arith
+word-bit false n = omega arith
 
 -- a literal's word by the place of its atom and the sign of another word
 pub same-sign : (negative : Bool) (symbol place : ℕ) → 2 * (suc place - 1) + wordOf negative symbol % 2 ≡ wordOf negative place

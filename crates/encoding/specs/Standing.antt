@@ -1,23 +1,19 @@
 -- How the values and the index stand for a trail and a table. Assumes nothing.
 use Prim.Native.Nat.{ℕ, suc}
 use mathlib.Core.Path.{_≡_}
-use mathlib.Core.Bool.{true, false}
 use mathlib.Core.List.{List}
 use lib.ListN.{getD}
 use Rattle.definitions.specs.Lists.{_∈_}
 use Rattle.definitions.specs.Words.{Atom, Literal, plain, Problem, position}
-use Rattle.definitions.specs.Search.{Trail, isTrue, isFalse}
+use Rattle.definitions.specs.Search.{Trail, isTrue}
+use Rattle.definitions.specs.LiteralTest.{atomState}
 use Rattle.theory.specs.Limits.{LiteralLimits}
 use Rattle.encoding.specs.Encoding.{atomCode, literalWord}
-use Rattle.encoding.specs.Values.{Value, Values, unsetValue, trueValue, falseValue, valueAt, trueWord}
-
--- a literal's truth as a value
-unfoldable pub truth : Trail → Literal → Value
-truth t l = elim (isTrue t l) [ true ↦ trueValue | false ↦ elim (isFalse t l) [ true ↦ falseValue | false ↦ unsetValue ] ]
+use Rattle.encoding.specs.Values.{Values, valueAt, trueWord}
 
 -- the values are those of the trail, for every atom of the table
 abbrev pub Valued : List Atom → Trail → Values → Type 0
-Valued table t values = (a : Atom) → a ∈ table → valueAt values (position table a) ≡ truth t (plain a)
+Valued table t values = (a : Atom) → a ∈ table → valueAt values (position table a) ≡ atomState t a
 
 -- a literal of the table is true just where its word is
 abbrev pub TrueWords : List Atom → Trail → Values → Type 0

@@ -1,77 +1,94 @@
--- The tests of a value, the states of atoms once a literal is set or unset, and the value of a literal by its atom's. Assumes nothing.
+-- The tests of a value, a literal's sign, and the states of atoms once a literal is set or unset. Assumes nothing.
 use Prim.Native.Nat.{ℕ, _+_, _*_, _/_, _%_, _<_}
-use mathlib.Core.Path.{_≡_}
+use mathlib.Core.Path.{_≡_, refl, sym, ap, _∙_}
 use mathlib.Core.Bool.{true, false}
 use native.Mathlib.Omega.{arith}
 use lib.Dec.{eqb}
+use lib.IntN.{pos, negsuc}
 use lib.ListN.{length, length-set, length-replicate}
 use lib.Seq.{getD-set-same, getD-set-other, set-comm}
-use borrow.Author.Tests.{ne-eqb, eqb-true, eqb-false}
+use borrow.Author.Tests.{eq-eqb, ne-eqb, eqb-true, eqb-false}
+use mir.Syntax.{w32}
+use mir.Val.{SFits, toZ, ofZ}
+use mir.Facts.{sfits-lit, toZ-ofZ}
+use Rattle.definitions.specs.LiteralTest.{Value, unsetValue, trueValue, falseValue}
 use Rattle.theory.specs.Tests.{by-test}
 use Rattle.encoding.specs.ArrayLaws.{getD-repeated}
-use Rattle.encoding.specs.Values.{Value, Values, unsetValue, trueValue, falseValue, isTrueValue, isFalseValue, opposite, valueAt, literalValue, noValues, assigned, unassigned}
+use Rattle.encoding.specs.Values.{Values, sameValue, isUnsetValue, isTrueValue, isFalseValue, valueAt, wordSign, noValues, assigned, unassigned}
 
--- ── the tests of a value ──
+-- ── the tests of a value, by its bits: they are what the machine compares ──
 
-module _ (v : Value) where
-  pub is-true : v ≡ trueValue → isTrueValue v ≡ true
+same-value : (v u : Value) → v ≡ u → sameValue v u ≡ true
+unfolding sameValue
+same-value v u e = rw e (itself u)
+  where
+    itself : (u : Value) → sameValue u u ≡ true
+    itself (pos n) = eq-eqb n n refl
+    itself (negsuc n) = eq-eqb n n refl
+
+other-value : (v u : Value) → (v ≡ u → ⊥) → sameValue v u ≡ false
+unfolding sameValue
+other-value (pos m) (pos n) other = ne-eqb m n (λ e. other (ap pos e))
+other-value (pos m) (negsuc n) other = refl
+other-value (negsuc m) (pos n) other = refl
+other-value (negsuc m) (negsuc n) other = ne-eqb m n (λ e. other (ap negsuc e))
+
+module _ {v : Value} (fits : SFits w32 v) where
+  module _ (u : Value) (its : SFits w32 u) where
+    bits-equal : ofZ w32 v ≡ ofZ w32 u → v ≡ u
+    bits-equal e = sym (toZ-ofZ fits) ∙ ap (toZ w32) e ∙ toZ-ofZ its
+
+    bits-same : eqb (ofZ w32 v) (ofZ w32 u) ≡ sameValue v u
+    bits-same =
+        by-test (eqb (ofZ w32 v) (ofZ w32 u))
+        (λ e. e ∙ sym (same-value v u (bits-equal (eqb-true (ofZ w32 v) (ofZ w32 u) e))))
+        (λ e. e ∙ sym (other-value v u (λ q. eqb-false (ofZ w32 v) (ofZ w32 u) e (ap (ofZ w32) q))))
+
+  pub bits-unset : eqb (ofZ w32 v) (ofZ w32 unsetValue) ≡ isUnsetValue v
+  unfolding isUnsetValue
+  bits-unset = bits-same unsetValue (sfits-lit tt)
+
+  pub bits-true : eqb (ofZ w32 v) (ofZ w32 trueValue) ≡ isTrueValue v
   unfolding isTrueValue
-  is-true e = cc
+  bits-true = bits-same trueValue (sfits-lit tt)
 
-  pub other-than-true : (v ≡ trueValue → ⊥) → isTrueValue v ≡ false
-  unfolding isTrueValue
-  other-than-true n = ne-eqb v trueValue n
-
-  pub is-false : v ≡ falseValue → isFalseValue v ≡ true
+  pub bits-false : eqb (ofZ w32 v) (ofZ w32 falseValue) ≡ isFalseValue v
   unfolding isFalseValue
-  is-false e = cc
+  bits-false = bits-same falseValue (sfits-lit tt)
 
-  pub other-than-false : (v ≡ falseValue → ⊥) → isFalseValue v ≡ false
-  unfolding isFalseValue
-  other-than-false n = ne-eqb v falseValue n
+-- ── a literal's sign ──
 
--- ── a literal's value ──
+pub even-sign : (w : ℕ) → w % 2 ≡ 0 → wordSign w ≡ pos 1
+unfolding wordSign
+even-sign w e = cc
 
-module _ (values : Values) (p : ℕ) where
-  pub value-even : literalValue values (2 * p) ≡ valueAt values p
-  unfolding literalValue
-  value-even =
-      let e : (2 * p) % 2 ≡ 0 = omega arith in
+pub odd-sign : (w : ℕ) → w % 2 ≡ 1 → wordSign w ≡ negsuc 0
+unfolding wordSign
+odd-sign w e = cc
+
+-- ── setting and unsetting ──
+
+module _ (values : Values) (p : ℕ) (inside : p < length values) where
+  pub assigned-even : valueAt (assigned values (2 * p)) p ≡ trueValue
+  unfolding valueAt assigned
+  assigned-even =
       let f : (2 * p) / 2 ≡ p = omega arith in
-      cc
+      rw (even-sign (2 * p) (omega arith), f) (getD-set-same values p trueValue unsetValue inside)
 
-  pub value-odd : literalValue values (2 * p + 1) ≡ opposite (valueAt values p)
-  unfolding literalValue
-  value-odd =
-      let e : (2 * p + 1) % 2 ≡ 1 = omega arith in
+  pub assigned-odd : valueAt (assigned values (2 * p + 1)) p ≡ falseValue
+  unfolding valueAt assigned
+  assigned-odd =
       let f : (2 * p + 1) / 2 ≡ p = omega arith in
-      cc
+      rw (odd-sign (2 * p + 1) (omega arith), f) (getD-set-same values p falseValue unsetValue inside)
 
-  -- ── setting and unsetting ──
-
-  module _ (inside : p < length values) where
-    pub assigned-even : valueAt (assigned values (2 * p)) p ≡ trueValue
-    unfolding valueAt assigned
-    assigned-even =
-        let e : trueValue + (2 * p) % 2 ≡ trueValue = omega arith in
-        let f : (2 * p) / 2 ≡ p = omega arith in
-        rw (e, f) (getD-set-same values p trueValue unsetValue inside)
-
-    pub assigned-odd : valueAt (assigned values (2 * p + 1)) p ≡ falseValue
-    unfolding valueAt assigned
-    assigned-odd =
-        let e : trueValue + (2 * p + 1) % 2 ≡ falseValue = omega arith in
-        let f : (2 * p + 1) / 2 ≡ p = omega arith in
-        rw (e, f) (getD-set-same values p falseValue unsetValue inside)
-
-    pub unassigned-here : (w : ℕ) → w / 2 ≡ p → valueAt (unassigned values w) p ≡ unsetValue
-    unfolding valueAt unassigned
-    unassigned-here w q = rw q (getD-set-same values p unsetValue unsetValue inside)
+  pub unassigned-here : (w : ℕ) → w / 2 ≡ p → valueAt (unassigned values w) p ≡ unsetValue
+  unfolding valueAt unassigned
+  unassigned-here w q = rw q (getD-set-same values p unsetValue unsetValue inside)
 
 module _ (values : Values) (w : ℕ) where
   pub assigned-elsewhere : (i : ℕ) → (w / 2 ≡ i → ⊥) → valueAt (assigned values w) i ≡ valueAt values i
   unfolding valueAt assigned
-  assigned-elsewhere i other = getD-set-other values (w / 2) i (trueValue + w % 2) unsetValue (λ q. other (cc))
+  assigned-elsewhere i other = getD-set-other values (w / 2) i (wordSign w) unsetValue (λ q. other (cc))
 
   pub unassigned-elsewhere : (i : ℕ) → (w / 2 ≡ i → ⊥) → valueAt (unassigned values w) i ≡ valueAt values i
   unfolding valueAt unassigned
@@ -79,7 +96,7 @@ module _ (values : Values) (w : ℕ) where
 
   pub length-assigned : length (assigned values w) ≡ length values
   unfolding assigned
-  length-assigned = length-set values (w / 2) (trueValue + w % 2)
+  length-assigned = length-set values (w / 2) (wordSign w)
 
   pub length-unassigned : length (unassigned values w) ≡ length values
   unfolding unassigned
@@ -94,8 +111,8 @@ unassigned-either values v w =
     (λ e. set-comm values (v / 2) (w / 2) unsetValue unsetValue (eqb-false (v / 2) (w / 2) e))
 
 pub length-none : length noValues ≡ 256
-length-none = length-replicate {A = ℕ} 256 unsetValue
+length-none = length-replicate {A = Value} 256 unsetValue
 
 pub no-value : (p : ℕ) → valueAt noValues p ≡ unsetValue
 unfolding valueAt
-no-value p = getD-repeated 0 256 p
+no-value p = getD-repeated unsetValue 256 p

@@ -23,10 +23,12 @@ use Rattle.encoding.specs.PositionLaws.{code-at}
 use Rattle.encoding.specs.HoldLaws.{searchable-encodable, plain-limits}
 use Rattle.encoding.specs.Signs.{numberOf, number-word}
 use Rattle.encoding.specs.Values.{Values, unsetAt, falseWord}
+use Rattle.encoding.specs.WordTruths.{unset-at, false-word}
 use Rattle.encoding.specs.ArrayLaws.{front-at}
-use Rattle.encoding.specs.TruthLaws.{Consistent, by-truth, unset-at, false-word}
 use Rattle.units.specs.LiteralWords.{word-plain}
 use Rattle.theory.specs.PlaceLaws.{getElem-in}
+use Rattle.theory.specs.TruthLaws.{by-truth}
+use Rattle.theory.specs.SearchLaws.{Consistent}
 use Rattle.machine.specs.Finished.{Finished}
 use Rattle.machine.specs.declared.Ended.{Ended}
 use Rattle.listing.specs.Lines.{rowBytes, columnBytes, codeNumbers, wordNumbers, loggedNumbers, loggedBytes, logBytes, settingBytes, settingsBytes, countBytes, listingBytes, ClausesListable}

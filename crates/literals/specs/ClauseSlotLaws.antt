@@ -8,7 +8,7 @@ use lib.ListN.{length, getD, length-append}
 use lib.Seq.{getD-append-seam, getD-append-add}
 use Rattle.definitions.specs.Lists.{joined}
 use Rattle.definitions.specs.Words.{Literal, Clause, constant}
-use Rattle.encoding.specs.Signs.{wordOf, wordOf-half, word-sign}
+use Rattle.encoding.specs.Signs.{wordOf, wordOf-half, word-bit}
 use Rattle.encoding.specs.Slots.{asPattern, termWord, termWords, patternWords, slotWords}
 use Rattle.encoding.specs.SlotLaws.{pattern-length}
 use Rattle.literals.specs.Entering.{slotCode}
@@ -75,7 +75,7 @@ module _
 
   -- 1 where the literal is negated
   pub slot-sign : getD slots base 0 % 2 ≡ wordOf (not (l .positive)) 0
-  slot-sign = rw slot-symbol (word-sign (not (l .positive)) (l .atom .symbol))
+  slot-sign = rw slot-symbol (word-bit (not (l .positive)) (l .atom .symbol))
 
 -- ── the slots of a clause ──
 

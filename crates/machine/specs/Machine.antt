@@ -3,7 +3,6 @@ use Prim.Native.Nat.{ℕ, suc, _*_, _<_, _^_}
 use mathlib.Core.Path.{_≡_}
 use mathlib.Core.List.{List}
 use lib.ListN.{length, take}
-use denote.Ref.{RefT}
 use denote.Triple.Both.{Both}
 use Rattle.encoding.specs.Lengths.{literalArray, ruleArray, startArray}
 use Rattle.definitions.specs.Lists.{joined}
@@ -17,7 +16,7 @@ use Rattle.theory.specs.Invariants.{Sound}
 use Rattle.theory.specs.Ends.{measure}
 use Rattle.encoding.specs.Encoding.{Arrays, emptyIndex, sizesOf, hold}
 use Rattle.encoding.specs.declared.Sizes.{Sizes}
-use Rattle.encoding.specs.Lent.{Array, Lent, LentValues, ClauseStore, clauseStore, AtomTable, atomTable, TrailArrays, trailArrays}
+use Rattle.encoding.specs.Lent.{Array, Lent, ValueArray, LentValues, ClauseStore, clauseStore, AtomTable, atomTable, TrailArrays, trailArrays}
 use Rattle.encoding.specs.Slots.{ruleWords}
 use Rattle.encoding.specs.Values.{Values, noValues}
 use Rattle.units.specs.TrailWords.{TrailStands}
@@ -44,7 +43,7 @@ machine starts literals heads numbers table index values trail marks =
     record { store = clauseStore starts literals heads numbers; table = atomTable table index; trail = trailArrays values trail marks }
 
 -- lent, as a `requires` names its arrays, and at both moments
-abbrev pub machineNow : Array → Array → Array → Array → Array → Array → RefT Values → Array → Array → Machine
+abbrev pub machineNow : Array → Array → Array → Array → Array → Array → ValueArray → Array → Array → Machine
 machineNow starts literals heads numbers table index values trail marks =
     machine (starts .now) (literals .now) (heads .now) (numbers .now) (table .now) (index .now) (values .now) (trail .now) (marks .now)
 

@@ -13,7 +13,7 @@ use Rattle.definitions.specs.Words.{Atom, Literal, plain, Problem, goalAtoms, p
 use Rattle.definitions.specs.Instances.{Task, taskOf}
 use Rattle.definitions.specs.Search.{forced, Entry, Trail, isTrue, isUnset, State, force, nextAct, nextGoal, backtrack, setUnit, more}
 use Rattle.theory.specs.ListLaws.{at-split, in-along, pigeonhole, Different}
-use Rattle.theory.specs.SearchLaws.{true-at, unset-new, goal-first}
+use Rattle.theory.specs.SearchLaws.{Consistent, true-at, unset-new, goal-first}
 use Rattle.theory.specs.Steps.{unit}
 use Rattle.theory.specs.Trail.{Decision, Consequence, Ok, bare, next}
 use Rattle.theory.specs.Choices.{choiceWorld, inv-act}
@@ -21,7 +21,6 @@ use Rattle.theory.specs.Unknown.{consistent}
 use Rattle.theory.specs.Ends.{Fits, step-fits}
 use Rattle.units.specs.Units.{actFrom}
 use Rattle.encoding.specs.Standing.{TrueWords}
-use Rattle.encoding.specs.TruthLaws.{Consistent, true-word}
 use Rattle.units.specs.ClausesStand.{actWord}
 use Rattle.units.specs.UnitLaws.{act-stands}
 use Rattle.units.specs.TrailWords.{latestDecision, firstUnset, TrailStands}
@@ -29,6 +28,7 @@ use Rattle.walk.specs.Walk.{walkFrom}
 use Rattle.walk.specs.WalkStands.{WalkAs, walk-stands}
 use Rattle.log.specs.LogHolds.{holds-index}
 use Rattle.machine.specs.Machine.{Machine, logIn, Stands, RulesStand}
+use Rattle.encoding.specs.WordTruths.{true-word}
 use Rattle.units.specs.BacktrackLaws.{DecidedTrue, backtrack-none-zero, Backtracked, backtrack-stands}
 use Rattle.units.specs.FirstUnset.{first-unset-some, first-unset-none}
 use Rattle.machine.specs.declared.Run.{Run}

@@ -2,7 +2,8 @@
 -- A call takes a sheet's bytes, a 32-bit budget and a room that is lent. The contracts of `solve` and `solve_listing` say that they hand
 -- back `call` and `listedPart` and leave `roomAfter` in the room, for all bytes, budgets and rooms, and they require nothing. Here
 -- stands what these three are: demand 1, demand 2 and demand 3. The words are those of document 01, each defined in the crate
--- `definitions`; what is taken from the theory are proofs. Assumes nothing.
+-- `definitions`; where arrays are spoken of, the crate that has them says how they stand. What is taken from the theory are proofs.
+-- Assumes nothing.
 use Prim.Native.Nat.{ℕ, _%_, _≤_}
 use mathlib.Core.Path.{_≡_, ap, _∙_}
 use mathlib.Core.Logic.{_⊎_}
@@ -11,12 +12,13 @@ use mathlib.Core.List.{List, _++_}
 use lib.ListN.{length, take}
 use Rattle.definitions.specs.Lists.{_∈_}
 use Rattle.definitions.specs.Bounds.{sheetBytes, roomBytes, mostAtoms, mostExported, exportBytes}
-use Rattle.definitions.specs.Words.{Rule, Problem}
+use Rattle.definitions.specs.Words.{Atom, Literal, Rule, Problem}
 use Rattle.definitions.specs.Instances.{taskOf}
 use Rattle.definitions.specs.Meaning.{Choice, Fails, Assignment, Satisfies}
 use Rattle.definitions.specs.Sheet.{Line, nothing, decimal}
 use Rattle.definitions.specs.Questions.{Asked, no, yes, columns, connected, Draft, readLine, accepted, read}
-use Rattle.definitions.specs.Search.{State, done, search}
+use Rattle.definitions.specs.Search.{Trail, State, start, done, cameTo, run, search}
+use Rattle.definitions.specs.LiteralTest.{literalTest, TellsApart}
 use Rattle.definitions.specs.Verdicts.{FirstChoice, SpentWhen, FullWhen}
 use Rattle.definitions.specs.Dimacs.{Cnf, cnfOf, headerLine, cnfText, readCnf, CnfLimits}
 use Rattle.definitions.specs.Call.{Lending, afterLending, call, roomAfter, Comes, FromSearch}
@@ -26,6 +28,7 @@ use Rattle.definitions.specs.declared.Verdict.{Verdict}
 use Rattle.definitions.specs.declared.Verdict.the-variants.{Unsat, Unknown, Spent, Full}
 use Rattle.theory.specs.Theorems.{unsat, unknown, spent, full}
 use Rattle.theory.specs.CallLaws.{call-comes, answer-from-search, its-search}
+use Rattle.theory.specs.TruthLaws.{search-tells-apart}
 use Rattle.theory.specs.Demand3.{never-satisfied, never-unknown}
 use Rattle.theory.specs.Connected.{connected-heads, head-apart}
 use Rattle.theory.specs.BlankColumns.{nothing-blank, passed-over, blank-line, same-reading, same-accepted, same-results, same-keeps}
@@ -33,6 +36,10 @@ use Rattle.theory.specs.CnfReads.{cnf-round-trip, cnf-exact}
 use Rattle.theory.specs.CnfRefusals.{cnf-refusals, bad-header, good-header}
 use Rattle.theory.specs.Exports.{export-limits, export-size}
 use Rattle.theory.specs.ExportLaws.{export-comes, export-as-first-call, exported-read-back}
+use Rattle.encoding.specs.Encoding.{literalWord}
+use Rattle.encoding.specs.Values.{Values, literalValue}
+use Rattle.encoding.specs.Standing.{Valued}
+use Rattle.encoding.specs.WordTruths.{value-test}
 use Rattle.cnf_reader.specs.CnfArrays.{cnfRead, heldClauses}
 use Rattle.cnf_reader.specs.CnfArrayLaws.{cnf-held}
 
@@ -168,3 +175,14 @@ module _ (first second : List ℕ) (alike : FilledAlike first second) where
     -- and whatever is lent, a call comes to the same for both.
     pub request-3-calls : (lent : List Lending) (budget : ℕ) → afterLending lent first budget ≡ afterLending lent second budget
     request-3-calls = same-results first second alike short fits
+
+-- 4/14. In whatever state a search is, after every step and where it ends, the product of a literal's sign and its atom's state is 1, -1
+-- or 0 exactly when the literal is true, false or unset.
+pub request-4 : (p : Problem) (budget steps : ℕ) (l : Literal) → TellsApart (cameTo (run (taskOf p) budget steps (start (taskOf p))) .trail) l
+request-4 p = search-tells-apart (taskOf p)
+
+-- The contract of `value`, which all code asks about a literal, says that it hands back `literalValue`, from the array of states and the
+-- literal's word. Where the array holds the states of a table's atoms on a trail, that is this product.
+pub request-4-code : (table : List Atom) (t : Trail) (values : Values) → Valued table t values → (l : Literal) → l .atom ∈ table
+    → literalValue values (literalWord table l) ≡ literalTest t l
+request-4-code = value-test

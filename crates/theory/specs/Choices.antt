@@ -8,7 +8,7 @@ use Rattle.definitions.specs.Lists.{_∈_}
 use Rattle.definitions.specs.Words.{Literal, negate, Clause, goalAtoms}
 use Rattle.definitions.specs.Instances.{Instance, Task}
 use Rattle.definitions.specs.Meaning.{Choice, Makes, Closure, chosen, derived, bothSigns, falseBody, Fails}
-use Rattle.definitions.specs.Search.{Logged, clauseOf, State, Act, nextAct, done, searchTask}
+use Rattle.definitions.specs.Search.{Logged, clauseOf, State, Act, nextAct, Outcome, done, searchTask}
 use Rattle.definitions.specs.declared.Verdict.{Verdict}
 use Rattle.definitions.specs.declared.Verdict.the-variants.{Unsat}
 use Rattle.theory.specs.Tests.{by-option}
@@ -16,7 +16,8 @@ use Rattle.theory.specs.ListLaws.{all-or-else}
 use Rattle.theory.specs.WordLaws.{negate-negate, negate-atom, makes-one, goal-of}
 use Rattle.theory.specs.SearchLaws.{clause-head, clause-taken}
 use Rattle.theory.specs.Trail.{World, LogOk, Refutes, Laws, ActOk, act-ok}
-use Rattle.theory.specs.Answers.{Inv, InvTells, search-inv}
+use Rattle.theory.specs.Steps.{Step, After}
+use Rattle.theory.specs.Answers.{Inv, InvTells, step-inv, search-inv}
 
 module _ (k : Task) where
   abbrev pub choiceWorld : World
@@ -73,6 +74,9 @@ module _ (k : Task) where
 
   pub inv-act : (s : State) (v : Inv k choiceWorld s) (a : Act) → nextAct k s ≡ some a → ActOk k choiceWorld (s .trail) a
   inv-act s v = act-ok k choiceWorld choice-laws s (v .trailed) (v .logOk) (v .logOk)
+
+  pub inv-step : (budget : ℕ) (s : State) → Inv k choiceWorld s → (o : Outcome) → Step k budget s o → After (Inv k choiceWorld) (InvTells k choiceWorld) o
+  inv-step budget s v = step-inv k choiceWorld choice-laws budget s (v .logOk) v
 
   pub search-tells : (budget : ℕ) (v : Verdict) (s : State) → searchTask k budget ≡ done v s → InvTells k choiceWorld v s
   search-tells budget v s e = let (ok, tells) = search-inv k choiceWorld choice-laws budget v s e in tells ok

@@ -14,8 +14,8 @@ use Rattle.theory.specs.ListLaws.{Different}
 use Rattle.theory.specs.TableLaws.{enter-different, enter-behind, goal-atoms-different}
 use Rattle.theory.specs.Steps.{Step, unit, undone, refuted, logs, overflows, decides, overspends, rests, After, run-keeps}
 use Rattle.theory.specs.Ends.{Fits, start-fits, step-fits}
-use Rattle.theory.specs.Answers.{Inv, start-inv, step-inv}
-use Rattle.theory.specs.Choices.{choiceWorld, choice-laws}
+use Rattle.theory.specs.Answers.{Inv, start-inv}
+use Rattle.theory.specs.Choices.{choiceWorld, inv-step}
 use Rattle.theory.specs.Sources.{Sourced, step-sourced}
 
 -- ── the table ──
@@ -65,9 +65,9 @@ start-sound k h = record { fits = start-fits k h; inv = start-inv k (choiceWorld
 
 pub step-sound : (k : Task) (budget : ℕ) (s : State) → Sound k s → (o : Outcome) → Step k budget s o → After (Sound k) (λ v s. Sound k s) o
 step-sound k budget s c (more u) d =
-    record { fits = step-fits k budget s (c .fits) (more u) d; inv = step-inv k (choiceWorld k) (choice-laws k) budget s (c .inv .logOk) (c .inv) (more u) d; sourced = step-sourced k budget s (c .sourced) (more u) d; tabled = step-tabled k budget s (c .tabled) (more u) d }
+    record { fits = step-fits k budget s (c .fits) (more u) d; inv = inv-step k budget s (c .inv) (more u) d; sourced = step-sourced k budget s (c .sourced) (more u) d; tabled = step-tabled k budget s (c .tabled) (more u) d }
 step-sound k budget s c (done v u) d =
-    record { fits = step-fits k budget s (c .fits) (done v u) d; inv = step-inv k (choiceWorld k) (choice-laws k) budget s (c .inv .logOk) (c .inv) (done v u) d .0; sourced = step-sourced k budget s (c .sourced) (done v u) d; tabled = step-tabled k budget s (c .tabled) (done v u) d }
+    record { fits = step-fits k budget s (c .fits) (done v u) d; inv = inv-step k budget s (c .inv) (done v u) d .0; sourced = step-sourced k budget s (c .sourced) (done v u) d; tabled = step-tabled k budget s (c .tabled) (done v u) d }
 
 -- so they hold where a search ends
 pub search-sound : (k : Task) (budget : ℕ) (v : Verdict) (s : State) → length (goalAtoms (k .clauses)) ≤ 256 → searchTask k budget ≡ done v s → Sound k s

@@ -11,6 +11,7 @@ pub mod Trail
 pub mod Answers
 pub mod Choices
 pub mod Unknown
+pub mod TruthLaws
 pub mod Larger
 pub mod AskedLaws
 pub mod Reading

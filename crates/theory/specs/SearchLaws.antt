@@ -21,6 +21,10 @@ by-why decided d f g = d refl
 by-why flipped d f g = f refl
 by-why forced d f g = g refl
 
+-- no literal and its negation are both on the trail
+abbrev pub Consistent : Trail → Type 0
+Consistent t = (l : Literal) → isTrue t l ≡ true → isFalse t l ≡ true → ⊥
+
 -- where a true literal stands
 pub record TrueAt (t : Trail) (l : Literal) : Type 0 where
   pub entry : Entry

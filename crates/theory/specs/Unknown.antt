@@ -16,13 +16,12 @@ use Rattle.definitions.specs.declared.Verdict.the-variants.{Unknown}
 use Rattle.theory.specs.Tests.{by-test, true-and-false, none≢some}
 use Rattle.theory.specs.ListLaws.{at-split, in-along, splits}
 use Rattle.theory.specs.WordLaws.{negate-negate, negate-atom, negate-differs, as-plain, as-negated, goal-of}
-use Rattle.theory.specs.SearchLaws.{true-at, entry-true, true-cases, unset-not-true, unset-not-false, unset-negate, set-cases, set-more, false-conflict, goal-quiet, rests-true, goals-set}
+use Rattle.theory.specs.SearchLaws.{Consistent, true-at, entry-true, true-cases, unset-not-true, unset-not-false, unset-negate, set-cases, set-more, false-conflict, goal-quiet, rests-true, goals-set}
 use Rattle.theory.specs.Trail.{Gave, Decision, decision-goal, Consequence, Agrees, Ok, bare, next}
 use Rattle.theory.specs.Choices.{choiceWorld, search-tells}
 
 module _ (k : Task) where
-  -- the trail never holds a literal and its negation
-  pub consistent : {t : Trail} → Ok k (choiceWorld k) t → (l : Literal) → isTrue t l ≡ true → isFalse t l ≡ true → ⊥
+  pub consistent : {t : Trail} → Ok k (choiceWorld k) t → Consistent t
   unfolding isTrue isFalse any
   consistent bare l p q = false≢true p
   consistent (next {e = e} {t = t} u r o) l p q =

@@ -1,47 +1,55 @@
 -- What a clause says, in the code's terms: what each way through the tests gives, and the turns of the loop. Assumes nothing.
 use Prim.Native.Nat.{ℕ, _+_, _-_, _≤_, _<_}
-use mathlib.Core.Path.{_≡_, refl, _∙_, ap}
+use mathlib.Core.Path.{_≡_, refl, sym, _∙_, ap}
+use mathlib.Core.Bool.{false}
 use mathlib.Core.List.{List, [], _∷_}
 use lib.ListN.{length, getD, take, drop}
 use borrow.Author.Tests.{eq-eqb, ne-eqb}
+use mir.Syntax.{w32}
+use mir.Val.{SFits, ofZ}
+use Rattle.definitions.specs.LiteralTest.{Value, trueValue, falseValue}
 use Rattle.theory.specs.Tests.{by-test}
-use Rattle.encoding.specs.Values.{Value, trueValue, falseValue, Values, isTrueValue, isFalseValue, literalValue}
-use Rattle.encoding.specs.ValueLaws.{is-true, other-than-true, is-false, other-than-false}
+use Rattle.encoding.specs.Values.{Values, isTrueValue, isFalseValue, literalValue}
+use Rattle.encoding.specs.ValueLaws.{bits-true, bits-false}
 use Rattle.encoding.specs.ArrayLaws.{part-cons, part-nil}
 use Rattle.units.specs.Scan.{unsetToo, seenWith, seenFrom, look}
 use Rattle.units.specs.declared.Seen.{Seen}
 use Rattle.units.specs.declared.Seen.the-variants.{AllFalse, One, Open}
 
--- one literal more
-module _ (seen : Seen) (w : ℕ) (v : Value) where
-  pub with-false : v ≡ falseValue → seen ≡ seenWith seen w v
+-- one literal more, by the bits of its value
+module _ (seen : Seen) (w : ℕ) {v : Value} (fits : SFits w32 v) where
+  pub with-false : ofZ w32 v ≡ ofZ w32 falseValue → seen ≡ seenWith seen w v
   unfolding seenWith
-  with-false e = cc (is-false v e)
+  with-false e = cc (sym (bits-false fits) ∙ eq-eqb (ofZ w32 v) (ofZ w32 falseValue) e)
 
-  pub with-true : (v ≡ falseValue → ⊥) → v ≡ trueValue → Open ≡ seenWith seen w v
-  unfolding seenWith
-  with-true n e = cc (other-than-false v n, is-true v e)
+  module _ (n : ofZ w32 v ≡ ofZ w32 falseValue → ⊥) where
+    not-false : isFalseValue v ≡ false
+    not-false = sym (bits-false fits) ∙ ne-eqb (ofZ w32 v) (ofZ w32 falseValue) n
 
-  module _ (n : v ≡ falseValue → ⊥) (m : v ≡ trueValue → ⊥) where
-    with-unset : seenWith seen w v ≡ unsetToo seen w
+    pub with-true : ofZ w32 v ≡ ofZ w32 trueValue → Open ≡ seenWith seen w v
     unfolding seenWith
-    with-unset = cc (other-than-false v n, other-than-true v m)
+    with-true e = cc (not-false, sym (bits-true fits) ∙ eq-eqb (ofZ w32 v) (ofZ w32 trueValue) e)
 
-    pub with-first : seen ≡ AllFalse → One w ≡ seenWith seen w v
-    unfolding unsetToo
-    with-first e = cc (with-unset)
+    module _ (m : ofZ w32 v ≡ ofZ w32 trueValue → ⊥) where
+      with-unset : seenWith seen w v ≡ unsetToo seen w
+      unfolding seenWith
+      with-unset = cc (not-false, sym (bits-true fits) ∙ ne-eqb (ofZ w32 v) (ofZ w32 trueValue) m)
 
-    pub with-same : (x : ℕ) → seen ≡ One x → x ≡ w → One x ≡ seenWith seen w v
-    unfolding unsetToo
-    with-same x e q = cc (with-unset, eq-eqb x w q)
+      pub with-first : seen ≡ AllFalse → One w ≡ seenWith seen w v
+      unfolding unsetToo
+      with-first e = cc (with-unset)
 
-    pub with-second : (x : ℕ) → seen ≡ One x → (x ≡ w → ⊥) → Open ≡ seenWith seen w v
-    unfolding unsetToo
-    with-second x e q = cc (with-unset, ne-eqb x w q)
+      pub with-same : (x : ℕ) → seen ≡ One x → x ≡ w → One x ≡ seenWith seen w v
+      unfolding unsetToo
+      with-same x e q = cc (with-unset, eq-eqb x w q)
 
-    pub with-open : seen ≡ Open → Open ≡ seenWith seen w v
-    unfolding unsetToo
-    with-open e = cc (with-unset)
+      pub with-second : (x : ℕ) → seen ≡ One x → (x ≡ w → ⊥) → Open ≡ seenWith seen w v
+      unfolding unsetToo
+      with-second x e q = cc (with-unset, ne-eqb x w q)
+
+      pub with-open : seen ≡ Open → Open ≡ seenWith seen w v
+      unfolding unsetToo
+      with-open e = cc (with-unset)
 
 -- what is open stays open
 with-stays : (w : ℕ) (v : Value) → seenWith Open w v ≡ Open

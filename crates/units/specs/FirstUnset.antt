@@ -14,7 +14,7 @@ use Rattle.theory.specs.ListLaws.{at-split, in-along, Different, find-in, find-
 use Rattle.theory.specs.WordLaws.{sameAtom-eq, sameAtom-refl}
 use Rattle.theory.specs.TableLaws.{position-inside, position-append, position-behind}
 use Rattle.encoding.specs.Values.{Values, unsetAt}
-use Rattle.encoding.specs.TruthLaws.{unset-at}
+use Rattle.encoding.specs.WordTruths.{unset-at}
 use Rattle.units.specs.TrailWords.{firstUnset, TrailStands}
 
 module _ (t : Trail) (values : Values) where

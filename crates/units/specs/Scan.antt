@@ -3,7 +3,8 @@ use Prim.Native.Nat.{ℕ}
 use mathlib.Core.Bool.{true, false}
 use mathlib.Core.List.{List, [], _∷_}
 use lib.Dec.{eqb}
-use Rattle.encoding.specs.Values.{Value, Values, isTrueValue, isFalseValue, literalValue}
+use Rattle.definitions.specs.LiteralTest.{Value}
+use Rattle.encoding.specs.Values.{Values, isTrueValue, isFalseValue, literalValue}
 use Rattle.units.specs.declared.Seen.{Seen}
 use Rattle.units.specs.declared.Seen.the-variants.{AllFalse, One, Open}
 

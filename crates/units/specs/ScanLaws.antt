@@ -1,5 +1,5 @@
 -- What the words of a clause say is what the trail says of its literals: words for literals, values for the trail. Assumes nothing.
-use Prim.Native.Nat.{ℕ, _+_}
+use Prim.Native.Nat.{ℕ}
 use mathlib.Core.Path.{_≡_, refl, sym, _∙_, ap, subst}
 use mathlib.Core.Logic.{_⊎_, inl, inr}
 use mathlib.Core.Bool.{Bool, true, false}
@@ -13,12 +13,13 @@ use Rattle.definitions.specs.Search.{Trail, isTrue, isFalse, isUnset, Act, conf
 use Rattle.theory.specs.Tests.{by-test, by-option, apart, true-and-false}
 use Rattle.theory.specs.ListLaws.{all-each}
 use Rattle.theory.specs.WordLaws.{negate-atom}
-use Rattle.theory.specs.SearchLaws.{unset-not-true, unset-not-false, unset-of, negated-false, Alone, conflict-false, force-unit, false-conflict, unit-force}
+use Rattle.theory.specs.SearchLaws.{Consistent, unset-not-true, unset-not-false, unset-of, negated-false, Alone, conflict-false, force-unit, false-conflict, unit-force}
+use Rattle.theory.specs.TruthLaws.{by-truth}
 use Rattle.encoding.specs.Encoding.{literalWord, clauseWords}
 use Rattle.encoding.specs.Values.{Values, literalValue, trueWord, falseWord}
 use Rattle.units.specs.Scan.{unsetToo, seenWith, seenFrom, look}
 use Rattle.encoding.specs.Standing.{Valued}
-use Rattle.encoding.specs.TruthLaws.{Consistent, by-truth, true-word, false-word}
+use Rattle.encoding.specs.WordTruths.{true-word, false-word}
 use Rattle.units.specs.LiteralWords.{word-injective}
 use Rattle.units.specs.declared.Seen.{Seen}
 use Rattle.units.specs.declared.Seen.the-variants.{AllFalse, One, Open}

@@ -1,5 +1,5 @@
 -- The arrays stand for the trail through every step of the search: each step sets or clears a few places, and what stands there is what the new trail says. Assumes nothing.
-use Prim.Native.Nat.{ℕ, _+_, _-_, _/_, _≤_, _<_}
+use Prim.Native.Nat.{ℕ, _-_, _/_, _≤_, _<_}
 use mathlib.Core.Path.{_≡_, refl, sym, _∙_, ap, subst}
 use mathlib.Core.Logic.{inl, inr}
 use mathlib.Core.Bool.{true, false}
@@ -9,17 +9,18 @@ use lib.ListN.{length, getD, set, take, drop, length-append}
 use Rattle.definitions.specs.Lists.{_∈_, any}
 use Rattle.definitions.specs.Words.{Atom, Literal, negate, plain, sameAtom, sameLiteral, position}
 use Rattle.definitions.specs.Search.{Why, Entry, Trail, isTrue, isFalse, isUnset}
+use Rattle.definitions.specs.LiteralTest.{Value, unsetValue, truth}
 use Rattle.theory.specs.Tests.{by-test}
 use Rattle.theory.specs.ListLaws.{Different}
 use Rattle.theory.specs.WordLaws.{sameAtom-eq, sameLiteral-eq, negate-negate, negate-atom, negate-differs, plain-atom, as-plain, as-negated}
 use Rattle.theory.specs.SearchLaws.{true-at, at-true, unset-not-false, unset-of}
 use Rattle.theory.specs.TableLaws.{apart-atoms, position-inside, position-injective, position-append, position-behind}
+use Rattle.theory.specs.TruthLaws.{truth-true, truth-false, truth-unset}
 use Rattle.encoding.specs.PositionLaws.{literal-word-append}
 use Rattle.encoding.specs.Encoding.{literalWord}
-use Rattle.encoding.specs.Values.{Value, unsetValue, Values, valueAt, noValues, assigned, unassigned}
+use Rattle.encoding.specs.Values.{Values, valueAt, noValues, assigned, unassigned}
 use Rattle.encoding.specs.ValueLaws.{assigned-even, assigned-odd, assigned-elsewhere, unassigned-here, unassigned-elsewhere, length-unassigned, no-value}
-use Rattle.encoding.specs.Standing.{truth, Valued}
-use Rattle.encoding.specs.TruthLaws.{truth-true, truth-false, truth-unset}
+use Rattle.encoding.specs.Standing.{Valued}
 use Rattle.units.specs.TrailWords.{markOf, cleared, TrailStands}
 use Rattle.units.specs.LiteralWords.{word-plain, word-negated, word-half, word-small}
 use Rattle.units.specs.Stacks.{push, fits, pop, top, each-place, same-words, cleared-latest}

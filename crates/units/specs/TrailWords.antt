@@ -7,8 +7,9 @@ use lib.Dec.{eqb}
 use lib.ListN.{length, getD, take}
 use Rattle.definitions.specs.Words.{Atom}
 use Rattle.definitions.specs.Search.{Why, decided, flipped, forced, Entry, Trail}
+use Rattle.definitions.specs.LiteralTest.{unsetValue}
 use Rattle.encoding.specs.Encoding.{literalWord}
-use Rattle.encoding.specs.Values.{unsetValue, Values, valueAt, unsetAt, unassigned}
+use Rattle.encoding.specs.Values.{Values, valueAt, unsetAt, unassigned}
 use Rattle.encoding.specs.Standing.{Valued}
 
 -- why a word was set

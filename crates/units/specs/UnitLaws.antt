@@ -15,7 +15,7 @@ use Rattle.definitions.specs.Instances.{Task}
 use Rattle.definitions.specs.Search.{Trail, isTrue, isUnset, Logged, clauseOf, State, Act, conflict, force, notFalse, actOn, isGoal, goalAct, loggedAct, nextAct}
 use Rattle.theory.specs.Tests.{by-test, by-option, true-and-false}
 use Rattle.theory.specs.WordLaws.{sameAtom-eq, negate-atom, goal-of}
-use Rattle.theory.specs.SearchLaws.{clause-head, isGoal-in, in-isGoal, mayLogged}
+use Rattle.theory.specs.SearchLaws.{Consistent, clause-head, isGoal-in, in-isGoal, mayLogged}
 use Rattle.theory.specs.TableLaws.{position-inside, position-append}
 use Rattle.encoding.specs.Encoding.{literalWord, clauseWords}
 use Rattle.theory.specs.PlaceLaws.{getElem-in}
@@ -23,7 +23,6 @@ use Rattle.encoding.specs.Values.{Values, falseWord}
 use Rattle.units.specs.Scan.{look}
 use Rattle.units.specs.Units.{clauseAt, maySet, actAt, actFrom}
 use Rattle.encoding.specs.Standing.{Valued}
-use Rattle.encoding.specs.TruthLaws.{Consistent}
 use Rattle.units.specs.LiteralWords.{word-near}
 use Rattle.units.specs.ScanLaws.{SeenAs, heads-false, seen-as, not-all}
 use Rattle.units.specs.ClausesStand.{ClausesStand, actWord}

@@ -1,24 +1,24 @@
--- `values::assign` meets its contract: one store, at the word as it was widened. Assumes nothing.
+-- `values::assign` meets its contract: one store, of the literal's sign. Assumes nothing.
 use borrow.Author.Needs.{needs}
-use Rattle.encoding.proofs.ValueTests.{assigned-is}
+use Rattle.encoding.proofs.ValueTests.{sign-narrow, sign-stored, assigned-is}
 use Rattle.encoding.proofs.values.assign.Statement.{statement}
 use Rattle.encoding.proofs.values.assign.Tie as tie
 
-wide-requires : tie.Need-wide-requires
-wide-requires c κs = search needs
+atom-position-requires : tie.Need-atom-position-requires
+atom-position-requires c κs = search needs
 
-cast-values : tie.Need-cast-values
-cast-values c = search needs
+sign-requires : tie.Need-sign-requires
+sign-requires c κs = search needs
 
-add-values : tie.Need-add-values
-add-values c = search needs
+cast-state : tie.Need-cast-state
+cast-state c = sign-narrow _ (c .sign .ensures)
 
-element-write-values : tie.Need-element-write-values
-element-write-values c = search needs
+element-set-from-state : tie.Need-element-set-from-state
+element-set-from-state c = search needs
 
 returns : tie.Need-returns
-returns c = assigned-is (c .before .args .values .now) _ _ (c .wide .ensures .0)
+returns c = assigned-is _ _ _ (c .before .atom-position .ensures .0) (sign-stored _ (c .sign .ensures))
 
 pub assign-spec : {M : Type 1} → statement M
 assign-spec =
-    tie.close (tie.spec wide-requires cast-values add-values element-write-values returns)
+    tie.close (tie.spec atom-position-requires sign-requires cast-state element-set-from-state returns)

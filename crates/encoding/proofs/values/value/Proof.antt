@@ -1,24 +1,24 @@
--- `values::value` meets its contract, by the word's sign. Assumes nothing.
+-- `values::value` meets its contract: a sign times a state fits, whatever the state. Assumes nothing.
 use borrow.Author.Needs.{needs}
-use Rattle.encoding.proofs.ValueTests.{value-plain, value-negated}
+use Rattle.encoding.proofs.ValueTests.{product-fits, product-is, value-is}
 use Rattle.encoding.proofs.values.value.Statement.{statement}
 use Rattle.encoding.proofs.values.value.Tie as tie
 
-wide-requires : tie.Need-wide-requires
-wide-requires c κs = search needs
+sign-requires : tie.Need-sign-requires
+sign-requires c κs = search needs
 
-element-copy-out-v : tie.Need-element-copy-out-v
-element-copy-out-v c = search needs
+atom-position-requires : tie.Need-atom-position-requires
+atom-position-requires c κs = search needs
+
+state-at-requires : tie.Need-state-at-requires
+state-at-requires c κs = search needs
+
+mul-result : tie.Need-mul-result
+mul-result c = product-fits (c .state-at .ensures .1) _ (c .before .before .sign .ensures)
 
 returns : tie.Need-returns
-returns c = value-plain _ _ _ (c .before .before .wide .ensures .0) (c .if1 .taken)
-
-negated-requires : tie.Need-negated-requires
-negated-requires c κs = search needs
-
-returns-2 : tie.Need-returns-2
-returns-2 c = value-negated _ _ _ (c .before .before .before .wide .ensures .0) (c .before .if1 .left) (c .negated .ensures)
+returns c =
+    value-is _ _ _ (c .before .atom-position .ensures .0) (c .state-at .ensures .0) (product-is (c .state-at .ensures .1) _ (c .before .before .sign .ensures))
 
 pub value-spec : {M : Type 1} → statement M
-value-spec =
-    tie.close (tie.spec wide-requires element-copy-out-v returns negated-requires returns-2)
+value-spec = tie.close (tie.spec sign-requires atom-position-requires state-at-requires mul-result returns)

@@ -1,9 +1,11 @@
 -- `scan::look_at` meets its contract. What was seen, with the words that are left, says what all words say. Assumes nothing.
 use Prim.Native.Nat.{_-_, _≤_}
-use mathlib.Core.Path.{_≡_}
+use mathlib.Core.Path.{_≡_, _∙_}
 use native.Mathlib.Omega.{arith}
 use lib.ListN.{take, drop}
-use borrow.Author.Needs.{needs}
+use borrow.Author.Needs.{needs, sfits-of}
+use mir.Syntax.{w32}
+use mir.Facts.{toZ-ofZ}
 use Rattle.units.specs.Scan.{seenFrom, look}
 use Rattle.units.proofs.ScanTurns.{look-start, look-turn, look-hit, look-end}
 use Rattle.units.proofs.scan.look_at.Statement.{statement}
@@ -40,7 +42,7 @@ returns c =
     (c .before .before .before .before .before .before .loop .inv .1)
     (c .before .before .before .before .before .loop-test .taken)
     (omega arith)
-    (c .before .before .before .value .ensures)
+    (toZ-ofZ {w = w32} (sfits-of (c .before .before .before .value .ok)) ∙ c .before .before .before .value .ensures)
     (c .before .before .seen-with .ensures)
     (c .enum-told .given .1)
 
@@ -57,7 +59,7 @@ loop-again c = (
       (c .before .before .before .before .before .loop .inv .1)
       (c .before .before .before .before .loop-test .taken)
       (omega arith)
-      (c .before .before .value .ensures)
+      (toZ-ofZ {w = w32} (sfits-of (c .before .before .value .ok)) ∙ c .before .before .value .ensures)
       (c .before .seen-with .ensures),
 )
 
