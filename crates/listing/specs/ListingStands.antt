@@ -16,8 +16,11 @@ use Rattle.definitions.specs.Listing.{fieldBytes, lineBytes, narrow, wide, answ
 use Rattle.definitions.specs.declared.Verdict.{Verdict}
 use Rattle.definitions.specs.declared.Verdict.the-variants.{Unsat, Unknown, Spent, Full}
 use Rattle.theory.specs.ListLaws.{joined-append}
+use Rattle.theory.specs.SearchLaws.{Consistent}
+use Rattle.theory.specs.TruthLaws.{by-truth}
 use Rattle.theory.specs.Unknown.{consistent}
 use Rattle.theory.specs.TableLaws.{position-at}
+use Rattle.theory.specs.PlaceLaws.{getElem-in}
 use Rattle.encoding.specs.Encoding.{atomCode, literalWord, clauseWords}
 use Rattle.encoding.specs.PositionLaws.{code-at}
 use Rattle.encoding.specs.HoldLaws.{searchable-encodable, plain-limits}
@@ -26,9 +29,6 @@ use Rattle.encoding.specs.Values.{Values, unsetAt, falseWord}
 use Rattle.encoding.specs.WordTruths.{unset-at, false-word}
 use Rattle.encoding.specs.ArrayLaws.{front-at}
 use Rattle.units.specs.LiteralWords.{word-plain}
-use Rattle.theory.specs.PlaceLaws.{getElem-in}
-use Rattle.theory.specs.TruthLaws.{by-truth}
-use Rattle.theory.specs.SearchLaws.{Consistent}
 use Rattle.machine.specs.Finished.{Finished}
 use Rattle.machine.specs.declared.Ended.{Ended}
 use Rattle.listing.specs.Lines.{rowBytes, columnBytes, codeNumbers, wordNumbers, loggedNumbers, loggedBytes, logBytes, settingBytes, settingsBytes, countBytes, listingBytes, ClausesListable}

@@ -181,8 +181,8 @@ module _ (first second : List ℕ) (alike : FilledAlike first second) where
 pub request-4 : (p : Problem) (budget steps : ℕ) (l : Literal) → TellsApart (cameTo (run (taskOf p) budget steps (start (taskOf p))) .trail) l
 request-4 p = search-tells-apart (taskOf p)
 
--- The contract of `value`, which all code asks about a literal, says that it hands back `literalValue`, from the array of states and the
--- literal's word. Where the array holds the states of a table's atoms on a trail, that is this product.
+-- `value` is the one function that code asks about a literal, and its contract says that it hands back `literalValue` of the array of
+-- states and the literal's word. Where the array holds the states of a table's atoms on a trail, that is this product.
 pub request-4-code : (table : List Atom) (t : Trail) (values : Values) → Valued table t values → (l : Literal) → l .atom ∈ table
     → literalValue values (literalWord table l) ≡ literalTest t l
 request-4-code = value-test

@@ -75,7 +75,8 @@ module _ (k : Task) where
   pub inv-act : (s : State) (v : Inv k choiceWorld s) (a : Act) → nextAct k s ≡ some a → ActOk k choiceWorld (s .trail) a
   inv-act s v = act-ok k choiceWorld choice-laws s (v .trailed) (v .logOk) (v .logOk)
 
-  pub inv-step : (budget : ℕ) (s : State) → Inv k choiceWorld s → (o : Outcome) → Step k budget s o → After (Inv k choiceWorld) (InvTells k choiceWorld) o
+  pub inv-step : (budget : ℕ) (s : State) → Inv k choiceWorld s → (o : Outcome) → Step k budget s o
+      → After (Inv k choiceWorld) (InvTells k choiceWorld) o
   inv-step budget s v = step-inv k choiceWorld choice-laws budget s (v .logOk) v
 
   pub search-tells : (budget : ℕ) (v : Verdict) (s : State) → searchTask k budget ≡ done v s → InvTells k choiceWorld v s

@@ -9,7 +9,7 @@ use lib.ListN.{length, getD, set, take, drop, length-append}
 use Rattle.definitions.specs.Lists.{_∈_, any}
 use Rattle.definitions.specs.Words.{Atom, Literal, negate, plain, sameAtom, sameLiteral, position}
 use Rattle.definitions.specs.Search.{Why, Entry, Trail, isTrue, isFalse, isUnset}
-use Rattle.definitions.specs.LiteralTest.{Value, unsetValue, truth}
+use Rattle.definitions.specs.LiteralTest.{Value, unsetValue, truth, atomState}
 use Rattle.theory.specs.Tests.{by-test}
 use Rattle.theory.specs.ListLaws.{Different}
 use Rattle.theory.specs.WordLaws.{sameAtom-eq, sameLiteral-eq, negate-negate, negate-atom, negate-differs, plain-atom, as-plain, as-negated}
@@ -46,9 +46,9 @@ unfolding isTrue any
 true-other e t l n = by-test (sameLiteral l (e .literal)) (λ h. absurd (n (sym (sameLiteral-eq l (e .literal) h)))) (λ h. cc)
 
 -- an entry says nothing of other atoms
-truth-other : (e : Entry) (t : Trail) (a : Atom) → (e .literal .atom ≡ a → ⊥) → truth (e ∷ t) (plain a) ≡ truth t (plain a)
+state-other : (e : Entry) (t : Trail) (a : Atom) → (e .literal .atom ≡ a → ⊥) → atomState (e ∷ t) a ≡ atomState t a
 unfolding truth isFalse
-truth-other e t a n =
+state-other e t a n =
     cc (true-other e t (plain a) (λ q. n (ap (λ (x : Literal). x .atom) q ∙ plain-atom a)), true-other e t (negate (plain a)) (λ q. n (ap (λ (x : Literal). x .atom) q ∙ negate-atom (plain a) ∙ plain-atom a)))
 
 -- and its own atom has the value that setting its literal gives
@@ -59,12 +59,12 @@ module _ (table : List Atom) (values : Values) (e : Entry) (t : Trail) (inside :
   abbrev stored : ℕ → Value
   stored w = valueAt (assigned values w) (position table its)
 
-  stored-plain : e .literal ≡ plain its → stored (literalWord table (e .literal)) ≡ truth (e ∷ t) (plain its)
+  stored-plain : e .literal ≡ plain its → stored (literalWord table (e .literal)) ≡ atomState (e ∷ t) its
   stored-plain q =
       let holds = at-true (e ∷ t) (plain its) (record { entry = e; inside = List·Memᴰ·head refl; its = q }) in
       ap stored (ap (literalWord table) q ∙ word-plain table its) ∙ assigned-even values (position table its) inside ∙ sym (truth-true (e ∷ t) (plain its) holds)
 
-  stored-negated : e .literal ≡ negate (plain its) → isUnset t (e .literal) ≡ true → stored (literalWord table (e .literal)) ≡ truth (e ∷ t) (plain its)
+  stored-negated : e .literal ≡ negate (plain its) → isUnset t (e .literal) ≡ true → stored (literalWord table (e .literal)) ≡ atomState (e ∷ t) its
   unfolding isFalse
   stored-negated q u =
       let holds = at-true (e ∷ t) (negate (plain its)) (record { entry = e; inside = List·Memᴰ·head refl; its = q }) in
@@ -72,8 +72,8 @@ module _ (table : List Atom) (values : Values) (e : Entry) (t : Trail) (inside :
       let before : isTrue t (plain its) ≡ false = ap (isTrue t) (sym (negate-negate (plain its)) ∙ ap negate (sym q)) ∙ unset-not-false t (e .literal) u in
       ap stored (ap (literalWord table) q ∙ word-negated table its) ∙ assigned-odd values (position table its) inside ∙ sym (truth-false (e ∷ t) (plain its) (other ∙ before) holds)
 
-  assigned-truth : isUnset t (e .literal) ≡ true → stored (literalWord table (e .literal)) ≡ truth (e ∷ t) (plain its)
-  assigned-truth u =
+  assigned-state : isUnset t (e .literal) ≡ true → stored (literalWord table (e .literal)) ≡ atomState (e ∷ t) its
+  assigned-state u =
       by-test (e .literal .positive) (λ h. stored-plain (as-plain (e .literal) h)) (λ h. stored-negated (as-negated (e .literal) h) u)
 
 -- ── setting and undoing ──
@@ -103,11 +103,11 @@ module _ (table : List Atom) (values values′ : Values) (l : Literal) (inside :
   changed-outside o i h = others i (λ q. omega (arith, q, h, word-half table l, position-inside table (l .atom) inside)) ∙ o i h
 
   changed-valued : (before after : Trail) → Valued table before values
-      → valueAt values′ (position table (l .atom)) ≡ truth after (plain (l .atom)) → ((a : Atom) → (l .atom ≡ a → ⊥) → truth after (plain a) ≡ truth before (plain a))
+      → valueAt values′ (position table (l .atom)) ≡ atomState after (l .atom) → ((a : Atom) → (l .atom ≡ a → ⊥) → atomState after a ≡ atomState before a)
       → Valued table after values′
   changed-valued before after valued here elsewhere a m =
       by-test (sameAtom (l .atom) a)
-      (λ e. subst (λ (b : Atom). valueAt values′ (position table b) ≡ truth after (plain b)) (sameAtom-eq (l .atom) a e) here)
+      (λ e. subst (λ (b : Atom). valueAt values′ (position table b) ≡ atomState after b) (sameAtom-eq (l .atom) a e) here)
       (λ e. let n = apart-atoms e in
       others (position table a) (λ q. n (position-injective table (l .atom) a inside m (sym (word-half table l) ∙ q)))
       ∙ valued a m
@@ -122,8 +122,8 @@ set-stands {table} {t} {values} {trail} {marks} r s l y u m h =
       words = push (entryWord table) e t trail (omega (arith, r .trail-size)) (s .words);
       whys = push entryMark e t marks (omega (arith, r .marks-size)) (s .whys);
       valued = changed-valued table values (assigned values w) l m (assigned-elsewhere values w) t (e ∷ t) (s .valued)
-          (assigned-truth table values e t (omega (arith, r .table-size, r .values-size, position-inside table (l .atom) m)) u)
-          (truth-other e t);
+          (assigned-state table values e t (omega (arith, r .table-size, r .values-size, position-inside table (l .atom) m)) u)
+          (state-other e t);
       outside = changed-outside table values (assigned values w) l m (assigned-elsewhere values w) (s .outside);
     }
   where
@@ -157,7 +157,7 @@ unset-latest {table} {e} {t} {values} {trail} {marks} h s m n =
       whys = pop entryMark e t marks (s .whys);
       valued = changed-valued table values (unassigned values w) (e .literal) m (unassigned-elsewhere values w) (e ∷ t) t (s .valued)
           (unassigned-here values (position table a) (omega (arith, position-inside table a m)) w (word-half table (e .literal)) ∙ sym (truth-unset t (plain a) (new-unset t (plain a) (rw plain-atom n))))
-          (λ b k. sym (truth-other e t b k));
+          (λ b k. sym (state-other e t b k));
       outside = changed-outside table values (unassigned values w) (e .literal) m (unassigned-elsewhere values w) (s .outside);
     }
   where
@@ -199,7 +199,7 @@ grown-stands {table} {t} {values} s g a n =
     unset : isUnset t (plain a) ≡ true
     unset = new-unset t (plain a) (λ m. let (e, k, q) = Memᴰ·of-map atomOf t m in n (Memᴰ·cast (sym (q ∙ plain-atom a)) (g e k)))
 
-    new-value : (b : Atom) → b ≡ a → valueAt values (position (table ++ (a ∷ [])) b) ≡ truth t (plain b)
+    new-value : (b : Atom) → b ≡ a → valueAt values (position (table ++ (a ∷ [])) b) ≡ atomState t b
     new-value b q = rw (q, position-behind table [] a n) (s .outside (length table) (omega arith) ∙ sym (truth-unset t (plain a) unset))
 
 -- ── the start ──
