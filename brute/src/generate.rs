@@ -45,6 +45,7 @@ fn sheet(random: &mut Random) -> (Vec<u8>, bool) {
         400..=599 => (text(&order(random)), false),
         600..=999 => (text(&derived(random)), false),
         1000..=1099 => (text(&joins(random)), false),
+        1100..=1299 => (text(&alike(random)), false),
         _ => (text(&general(random)), false),
     }
 }
@@ -88,6 +89,8 @@ pub struct Style {
     pub false_bodies: usize,
     /// Constants among the arguments in rules.
     pub constant_terms: usize,
+    /// The heads with symbol and sign of an earlier one, so that a filling can make both one literal.
+    pub alike: usize,
     /// The rules whose heads stay as they come, so that question 14 turns some away.
     pub unmended: usize,
 }
@@ -112,6 +115,7 @@ pub fn any_style(random: &mut Random, constants: usize, arities: Vec<usize>) -> 
         negated_bodies: *random.pick(&[0, 20, 40, 60]),
         false_bodies: *random.pick(&[0, 20, 50]),
         constant_terms: 12,
+        alike: 12,
         unmended: 4,
     }
 }
@@ -212,11 +216,11 @@ fn rule_with(random: &mut Random, style: &Style, head_count: usize) -> Row {
     names.truncate(random.between(1, most));
     let mut heads: Vec<Row> = Vec::new();
     for _ in 0..head_count {
-        let head = match (random.below(100), heads.last()) {
-            (0..=2, Some(last)) => last.clone(),
-            (3..=5, Some(last)) => negated(last),
-            (6..=17, Some(last)) => {
-                let mut again = last.clone();
+        let earlier = (!heads.is_empty()).then(|| random.pick(&heads).clone());
+        let head = match (random.below(100), earlier) {
+            (0..=2, Some(earlier)) => earlier,
+            (3..=5, Some(earlier)) => negated(&earlier),
+            (share, Some(mut again)) if share < 6 + style.alike => {
                 for term in &mut again[1..] {
                     *term = *random.pick(&names);
                 }
@@ -468,6 +472,36 @@ fn joins(random: &mut Random) -> Vec<Row> {
     rows
 }
 
+/// Heads alike in symbol and sign over few constants, so that one literal serves two or three of them; atoms
+/// that rules create stand in such heads too, with decisions that undo them.
+fn alike(random: &mut Random) -> Vec<Row> {
+    let constants = *random.pick(&[1, 2, 2, 3]);
+    let goal = [1, 2];
+    let arities = [1, 2, 1, 2, 1].to_vec();
+    let mut style = any_style(random, constants, arities);
+    style.alike = 70;
+    style.negated_heads = *random.pick(&[0, 10, 30]);
+    style.bodies = vec![1, 2, 3, 3, 4, 4, 5, 5];
+    let mut rows = style.rows();
+    for _ in 0..random.between(2, 7) {
+        // Many rules begin with what the clauses speak of, or nothing would be created.
+        style.heads = if random.percent(40) {
+            goal.to_vec()
+        } else {
+            (1..=5).collect()
+        };
+        let head_count = *random.pick(&[1, 2, 2, 3, 3]);
+        rows.push(rule_with(random, &style, head_count));
+    }
+    let atoms: Vec<Row> = (0..random.between(2, 5))
+        .map(|_| random_atom(random, constants, &style.arities, &goal))
+        .collect();
+    for _ in 0..random.between(1, 6) {
+        rows.push(random_clause(random, &atoms, 25, 25));
+    }
+    rows
+}
+
 /// A clause that is always satisfied and brings its atoms into the table.
 fn tautology(atoms: &[Row]) -> Row {
     let mut literals = atoms.to_vec();
@@ -531,13 +565,15 @@ fn table_limit(random: &mut Random) -> Vec<Row> {
 }
 
 /// Around 512 logged clauses: at most one of 32 atoms, at most one of a few, and, as long as z is true,
-/// an end that always fails, so that every pair is tried and logged. With z false a few more follow.
+/// an end that always fails, so that every pair is tried and logged. With z false a few more follow. The
+/// pairs' constants are told apart by n, the lower one first; the 32 atoms have two.
 fn log_limit(random: &mut Random) -> Vec<Row> {
-    let (h, g, p, q, z, r, t) = (1, 2, 3, 4, 5, 6, 7);
-    let mut rows = vec![vec![1, 32]];
-    rows.extend([2, 2, 0, 0, 1, 2, 1].map(|arity| vec![2, arity]));
-    rows.push(rule(&[vec![h, 2, 1], vec![h, 3, 1]], &[]));
-    rows.push(rule(&[vec![g, 3, 1], vec![g, 2, 1]], &[]));
+    let (h, g, p, q, z, r, t, n) = (1, 2, 3, 4, 5, 6, 7, 8);
+    let mut rows = vec![vec![1, 7]];
+    rows.extend([2, 1, 0, 0, 1, 2, 1, 2].map(|arity| vec![2, arity]));
+    rows.push(rule(&[vec![h, 1, 3], vec![h, 2, 4], vec![n, 1, 2]], &[]));
+    rows.push(rule(&[vec![h, 3, 1], vec![h, 3, 2], vec![n, 1, 2]], &[]));
+    rows.push(rule(&[vec![g, 3], vec![g, 2], vec![n, 2, 3]], &[]));
     let last = [
         vec![],
         vec![vec![t, 5]],
@@ -547,14 +583,18 @@ fn log_limit(random: &mut Random) -> Vec<Row> {
     ];
     let body: &Vec<Row> = random.pick(&last);
     rows.push(rule(&[vec![r, 5, 4], vec![-z, 4]], body));
-    random.shuffle(&mut rows[8..]);
+    random.shuffle(&mut rows[9..]);
     rows.push(tautology(&[vec![z, 1]]));
-    rows.extend(all_with_one(h, 32).chunks(7).map(tautology));
-    rows.push(tautology(&all_with_one(g, random.between(5, 6))));
+    let pairs = (0..32).map(|place| vec![h, place / 6 + 1, place % 6 + 1]);
+    rows.extend(pairs.collect::<Vec<Row>>().chunks(7).map(tautology));
+    rows.push(tautology(&all_of(g, random.between(5, 6))));
     for (a, b) in [(p, q), (p, -q), (-p, q), (-p, -q)] {
         rows.push(clause(&[vec![-z, 1], vec![a], vec![b]]));
     }
     rows.push(tautology(&all_with_one(r, random.between(1, 7))));
+    for high in 2..=6 {
+        rows.extend((1..high).map(|low| clause(&[vec![n, low, high]])));
+    }
     rows
 }
 

@@ -1,8 +1,9 @@
-//! What request 3 speaks of, and how many calls met it.
+//! What requests 3 and 5 speak of, and how many calls met it.
 
 use crate::blanks::{places, text, BLANK};
 use crate::reader::{Refusal, LINE};
 use crate::rows::lines;
+use crate::search::Events;
 
 #[derive(Default)]
 pub struct Met {
@@ -15,6 +16,12 @@ pub struct Met {
     no_kind: u64,
     too_long: u64,
     slipped: u64,
+    repeated_head: u64,
+    two_of_three: u64,
+    all_three: u64,
+    repeated_and_body: u64,
+    repeated_sets: u64,
+    repeated_passed_over: u64,
 }
 
 impl Met {
@@ -26,6 +33,15 @@ impl Met {
         self.between += met(has_blank_between);
         self.behind += met(|line| text(line).ends_with(BLANK));
         self.full += met(|line| text(line).len() == LINE && has_blank(line));
+    }
+
+    pub fn count_events(&mut self, events: &Events) {
+        self.repeated_head += u64::from(events.repeated_head > 0);
+        self.two_of_three += u64::from(events.two_of_three > 0);
+        self.all_three += u64::from(events.all_three > 0);
+        self.repeated_and_body += u64::from(events.repeated_and_body > 0);
+        self.repeated_sets += u64::from(events.repeated_sets > 0);
+        self.repeated_passed_over += u64::from(events.repeated_passed_over > 0);
     }
 
     pub fn count_refused(&mut self, sheet: &[u8], refusal: Refusal) {
@@ -44,7 +60,7 @@ impl Met {
         }
     }
 
-    pub fn named(&self) -> [(&'static str, u64); 9] {
+    pub fn named(&self) -> [(&'static str, u64); 15] {
         [
             ("sheet with blank columns answered", self.answered),
             ("blank column before the kind", self.before),
@@ -58,6 +74,21 @@ impl Met {
                 self.too_long,
             ),
             ("blanks out of place refused with 6", self.slipped),
+            ("instance with a repeated head logged", self.repeated_head),
+            ("two of three heads alike", self.two_of_three),
+            ("three heads alike", self.all_three),
+            (
+                "repeated head, and the body literal stands there too",
+                self.repeated_and_body,
+            ),
+            (
+                "created atom set by a clause with a repeated head",
+                self.repeated_sets,
+            ),
+            (
+                "created atom not set by a clause with a repeated head",
+                self.repeated_passed_over,
+            ),
         ]
     }
 }

@@ -54,6 +54,7 @@ impl Tally {
             } => {
                 self.answers[ended.verdict as usize] += 1;
                 self.met.count_answered(&case.sheet);
+                self.met.count_events(new);
                 self.by_meaning += u64::from(*by_meaning);
                 let sum = &mut self.events;
                 sum.backwards += new.backwards;
@@ -103,8 +104,8 @@ impl Tally {
             .map(|(name, count)| (name.to_string(), count))
             .collect();
         all.extend((1..16).map(|number| (format!("refusal {number}"), self.refusals[number])));
-        let blanks = self.met.named();
-        all.extend(blanks.map(|(name, count)| (name.to_string(), count)));
+        let met = self.met.named();
+        all.extend(met.map(|(name, count)| (name.to_string(), count)));
         let events = &self.events;
         for (name, count) in [
             (

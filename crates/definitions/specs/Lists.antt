@@ -39,11 +39,6 @@ module _ {A : Type 0} where
   distinct same [] = []
   distinct same (x ∷ xs) = x ∷ filter (λ y. not (same x y)) (distinct same xs)
 
-  -- no two elements are the same
-  unfoldable pub allDifferent : (A → A → Bool) → List A → Bool
-  allDifferent same [] = true
-  allDifferent same (x ∷ xs) = not (any (same x) xs) && allDifferent same xs
-
   -- the value, if there is one
   unfoldable pub listOf : Option A → List A
   listOf none = []
@@ -67,5 +62,5 @@ upFrom first (suc n) = first ∷ upFrom (suc first) n
 
 -- names every definition of this module, for a theorem that computes with all of them
 unfoldable pub Lists·all : Unit {0}
-unfolding isEmpty any all filter find distinct allDifferent listOf firstSome joined upFrom
+unfolding isEmpty any all filter find distinct listOf firstSome joined upFrom
 Lists·all = tt

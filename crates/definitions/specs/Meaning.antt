@@ -61,7 +61,7 @@ pub data SatisfiesFilling (v : Assignment) (r : Rule) (f : Substitution) : Type 
   headFalse : (p : Pattern) → p ∈ r .heads → Makes v (negate (ground f p)) → SatisfiesFilling v r f
   bodyTrue : (r .body ≡ [] → ⊥) → ((p : Pattern) → p ∈ r .body → Makes v (ground f p)) → SatisfiesFilling v r f
 
--- it satisfies all clauses of a problem and every filling of all its rules; a filling need not be an instance
+-- it satisfies all clauses of a problem and every filling of all its rules
 pub record Satisfies (v : Assignment) (p : Problem) : Type 0 where
   pub clauses : (c : Clause) → c ∈ p .clauses → SatisfiesClause v c
   pub rules : (r : Rule) → r ∈ p .rules → (f : Substitution) → f ∈ substitutions (p .constants) (variables r) → SatisfiesFilling v r f

@@ -273,16 +273,20 @@ onDecisions =
 -- rules: which instance, which body literal, and what is logged
 unfoldable pub onRules : List Trial
 onRules =
-    -- a(X5,X3) and a(X2,X3) give false; a(1,1); a(2,1). Ordering fillings by where the heads show the variables: another clause is logged
+    -- a(X5,X3) and b(X2,X3) give false; a(1,2); b(2,2); a(2,1); b(1,1). Ordering fillings by where the heads show the variables: another
+    -- clause is logged
     record {
       sheet =
           "   1   2" ∷
           "   2   2" ∷
-          "   3   2   0   1   5   3   1   2   3" ∷
-          "   4   1   1   1   1" ∷
-          "   4   1   1   2   1" ∷ [];
+          "   2   2" ∷
+          "   3   2   0   1   5   3   2   2   3" ∷
+          "   4   1   1   1   2" ∷
+          "   4   1   2   2   2" ∷
+          "   4   1   1   2   1" ∷
+          "   4   1   2   1   1" ∷ [];
       budget = 1000000;
-      listing = "   5   0   2   1           0           1" ∷ "   6   1   2  -1   2   1  -1   1   1" ∷ [];
+      listing = "   5   0   4   1           0           1" ∷ "   6   1   2  -1   2   1  -2   1   1" ∷ [];
     } ∷
     -- a(X1) gives false; a(2); a(1). Matching heads against the table in its order: another clause is logged
     record {
@@ -403,10 +407,94 @@ onRepeats =
     } ∷
     []
 
+-- one literal that serves two heads
+unfoldable pub onEqualHeads : List Trial
+onEqualHeads =
+    -- p(X,Z) and p(Y,Z) give c(X,Y); p(1,1). Writing the negated head twice: 3 literals. Asking two literals of the clause, as many as
+    -- there are heads, before c(1,1) may be set: it is one of them, and is never set
+    record {
+      sheet =
+          "   1   1" ∷
+          "   2   2" ∷
+          "   2   2" ∷
+          "   3   2   1   1   1   3   1   2   3   2   1   2" ∷
+          "   4   1   1   1   1" ∷ [];
+      budget = 1000000;
+      listing =
+          "   5   1   2   1           0           0" ∷
+          "   6   1   2  -1   1   1   2   1   1" ∷
+          "   7   1   1   1" ∷
+          "   7   2   1   1" ∷ [];
+    } ∷
+    -- p(X) gives c(X,X), c(X,Y) and c(Y,X) give false, not c(X,X) gives false; p(1) or not p(1). After the conflict c(1,1) is unset, and
+    -- not c(1,1) is all of a clause of two heads. Taking a repeated head for true, since it was dropped: not c(1,1) is set, UNSAT
+    record {
+      sheet =
+          "   1   1" ∷
+          "   2   1" ∷
+          "   2   2" ∷
+          "   3   1   1   1   1   2   1   1" ∷
+          "   3   2   0   2   1   2   2   2   1" ∷
+          "   3   1   0  -2   1   1" ∷
+          "   4   2   1   1  -1   1" ∷ [];
+      budget = 1000000;
+      listing =
+          "   5   1   2   2           1           1" ∷
+          "   6   1   2  -1   1   2   1   1" ∷
+          "   6   2   1  -2   1   1" ∷
+          "   7  -1   1" ∷ [];
+    } ∷
+    -- p(X) and q(X,Y) and p(Y) give false; p(1); q(1,1). Looking for a repeat only beside a head: 3 literals
+    record {
+      sheet =
+          "   1   1" ∷
+          "   2   1" ∷
+          "   2   2" ∷
+          "   3   3   0   1   1   2   1   2   1   2" ∷
+          "   4   1   1   1" ∷
+          "   4   1   2   1   1" ∷ [];
+      budget = 1000000;
+      listing = "   5   0   2   1           0           1" ∷ "   6   1   2  -1   1  -2   1   1" ∷ [];
+    } ∷
+    -- p(X,Y) and p(Y,X) give not p(X,Y); p(1,1). Writing any of the three literals again: 2 or 3 literals
+    record {
+      sheet =
+          "   1   1" ∷
+          "   2   2" ∷
+          "   3   2   1   1   1   2   1   2   1  -1   1   2" ∷
+          "   4   1   1   1   1" ∷ [];
+      budget = 1000000;
+      listing = "   5   0   1   1           0           1" ∷ "   6   1   1  -1   1   1" ∷ [];
+    } ∷
+    -- p(X,Z) and p(Y,Z) give c(X,Y); p(1,1); p(2,1). Taking the fillings whose heads differ first: c(1,2) is logged before c(1,1)
+    record {
+      sheet =
+          "   1   2" ∷
+          "   2   2" ∷
+          "   2   2" ∷
+          "   3   2   1   1   1   3   1   2   3   2   1   2" ∷
+          "   4   1   1   1   1" ∷
+          "   4   1   1   2   1" ∷ [];
+      budget = 1000000;
+      listing =
+          "   5   1   6   4           0           0" ∷
+          "   6   1   2  -1   1   1   2   1   1" ∷
+          "   6   1   3  -1   1   1  -1   2   1   2   1   2" ∷
+          "   6   1   3  -1   2   1  -1   1   1   2   2   1" ∷
+          "   6   1   2  -1   2   1   2   2   2" ∷
+          "   7   1   1   1" ∷
+          "   7   1   2   1" ∷
+          "   7   2   1   1" ∷
+          "   7   2   1   2" ∷
+          "   7   2   2   1" ∷
+          "   7   2   2   2" ∷ [];
+    } ∷
+    []
+
 unfoldable pub turns : List Trial
-turns = onCreatedAtoms ++ onGoalAtoms ++ onUnsetAtoms ++ onConflicts ++ onDecisions ++ onRules ++ onRepeats
+turns = onCreatedAtoms ++ onGoalAtoms ++ onUnsetAtoms ++ onConflicts ++ onDecisions ++ onRules ++ onRepeats ++ onEqualHeads
 
 -- each sheet gives its listing
 pub unmoved : map shown turns ≡ map expected turns
-unfolding turns onCreatedAtoms onGoalAtoms onUnsetAtoms onConflicts onDecisions onRules onRepeats shown expected Text·all Lists·all Words·all Instances·all Sheet·all Questions·all Search·all Listing·all Call·all
+unfolding turns onCreatedAtoms onGoalAtoms onUnsetAtoms onConflicts onDecisions onRules onRepeats onEqualHeads shown expected Text·all Lists·all Words·all Instances·all Sheet·all Questions·all Search·all Listing·all Call·all
 unmoved = refl

@@ -14,7 +14,7 @@ use Rattle.theory.specs.ListLaws.{Different}
 use Rattle.theory.specs.WordLaws.{goal-of}
 use Rattle.theory.specs.SearchLaws.{enter-new}
 use Rattle.theory.specs.Limits.{LiteralLimits}
-use Rattle.theory.specs.TableLaws.{enterAll, by-member, enter-known, enter-fresh, enter-different, enter-each, atomsOf, goal-atoms-more, goal-atoms-different, joined-more, enter-all-behind, position-behind}
+use Rattle.theory.specs.TableLaws.{enterAll, by-known, enter-known, enter-fresh, enter-different, enter-each, atomsOf, goal-atoms-more, goal-atoms-different, joined-more, enter-all-behind, position-behind}
 use Rattle.column.specs.Sets.{sets-more}
 use Rattle.encoding.specs.Signs.{wordOf, word-number}
 use Rattle.encoding.specs.Slots.{asPattern, slotWords}
@@ -50,7 +50,7 @@ module _ (constants : ℕ) (arities : List ℕ) (limits : CodeLimits constants a
       let a = l .atom in
       let negative = not (l .positive) in
       let e = entered (length gs) (length ws) (sets literals 0 ws) (sets table 0 (map atomCode gs)) (indexFrom 0 gs emptyIndex) in
-      by-member a gs
+      by-known a gs
       (λ m.
       let found = index-known constants arities limits gs each d a m in
       let word : 2 * (getD (indexFrom 0 gs emptyIndex) (atomCode a) 0 - 1) + wordOf negative 0 ≡ wordOf negative (position gs a) =

@@ -63,7 +63,7 @@ module _ (values : Values) (index rules : List ℕ) (n : ℕ) where
   unfolding firesAt firesUnder trueUnder
   fires-entered r f e b m =
       let filling = fillingOf n (ruleVariables rules r) f in
-      let heads = and-left _ _ (and-left _ _ e) in
+      let heads = and-left _ _ e in
       let here = all-each (trueUnder values index rules filling) (headSlots rules r) heads b m in
       let place = getD index (codeUnder rules filling b) 0 in
       let other = eqb-false place 0 (not-true (eqb place 0) (and-left _ _ here)) in

@@ -15,7 +15,7 @@ use Rattle.definitions.specs.Search.{Why, decided, flipped, forced, Trail, isUn
 use Rattle.definitions.specs.declared.Verdict.{Verdict}
 use Rattle.definitions.specs.declared.Verdict.the-variants.{Unsat, Unknown, Spent, Full}
 use Rattle.theory.specs.Tests.{none≢some, some-injective}
-use Rattle.theory.specs.TableLaws.{by-member, enter-known, enter-fresh}
+use Rattle.theory.specs.TableLaws.{by-known, enter-known, enter-fresh}
 use Rattle.theory.specs.Limits.{Searchable}
 use Rattle.theory.specs.Steps.{Step, unit, undone, refuted, logs, overflows, decides, overspends, rests, kind}
 use Rattle.theory.specs.Counts.{step-counts}
@@ -212,7 +212,7 @@ module _ (p : Problem) (budget : ℕ) (rules : List ℕ) (rulesStand : RulesStan
   unfolding enterTaken
   grown-trail none = h .trail
   grown-trail (some l) =
-      by-member (l .atom) (s .table)
+      by-known (l .atom) (s .table)
       (λ i. rw (enter-known (s .table) (l .atom) i) (h .trail))
       (λ out. rw (enter-fresh (s .table) (l .atom) out) (grown-stands (h .trail) (h .sound .fits .entered) (l .atom) out))
 

@@ -14,7 +14,7 @@ use Rattle.definitions.specs.Questions.{yes, _>>=_, _>>_, ask}
 use Rattle.definitions.specs.Listing.{decimals}
 use Rattle.definitions.specs.Text.{bytes}
 use Rattle.definitions.specs.Dimacs.{Cnf, headerLine, literalText, clauseText, cnfText, Front, front, expect, expects, decimalAt, Header, headerAt, literalAt, closeAt, startsWith, clauseLineAt, clausesAt, readCnf, CnfLimits}
-use Rattle.theory.specs.Tests.{by-test, apart}
+use Rattle.theory.specs.Tests.{by-test}
 use Rattle.theory.specs.ListLaws.{empty-nil, Each, each-nil, each-cons}
 use Rattle.theory.specs.AskedLaws.{yes-injective, bind-yes, ask-yes}
 use Rattle.theory.specs.CnfText.{decimal-read, decimal-then, expect-read, expects-read, expects-exact, InRange, signed-text, starts-read, literal-text-read, literal-exact}

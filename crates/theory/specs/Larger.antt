@@ -1,18 +1,19 @@
 -- Demand 3 on problems: more clauses, rules and constants only add clauses and instances, so what makes every choice fail in
 -- the smaller problem makes every choice fail in the larger, and no assignment satisfies the larger. Assumes nothing.
-use Prim.Native.Nat.{ℕ, _≤_}
+use Prim.Native.Nat.{ℕ, suc, _≤_}
 use mathlib.Core.Path.{_≡_, refl, sym, subst, _∙_}
 use mathlib.Core.Logic.{inl, inr}
 use mathlib.Core.List.{List, [], _∷_, _++_, map, cons≢nil, Memᴰ·map, Memᴰ·of-map}
 use Rattle.definitions.specs.Lists.{_∈_}
 use Rattle.definitions.specs.Words.{Atom, Literal, Clause, Rule, Problem, goalAtoms}
-use Rattle.definitions.specs.Instances.{ground, variables, Instance, Task, taskOf}
+use Rattle.definitions.specs.Instances.{ground, variables, Instance, fill, Task, taskOf, FillingOf}
 use Rattle.definitions.specs.Meaning.{Assignment, Choice, Makes, Closure, chosen, derived, bothSigns, falseBody, Fails, SatisfiesClause, SatisfiesFilling, headFalse, bodyTrue, Satisfies}
 use Rattle.definitions.specs.Search.{State, done, searchTask, search}
 use Rattle.definitions.specs.Verdicts.{setting}
 use Rattle.definitions.specs.declared.Verdict.the-variants.{Unsat, Unknown}
 use Rattle.theory.specs.WordLaws.{makes-not-both, goal-of, goal-from}
-use Rattle.theory.specs.InstanceLaws.{substitutions-more, Renumbered, Filled, instance-filled, filled-instance}
+use Rattle.theory.specs.PlaceLaws.{getElem-at}
+use Rattle.theory.specs.InstanceLaws.{substitutions-more, Renumbered, every-filling, only-fillings, filled-rule, filled-heads, filled-body}
 use Rattle.theory.specs.Choices.{unsat-means}
 use Rattle.theory.specs.Unknown.{unknown-means}
 
@@ -81,20 +82,26 @@ pub record Includes (p q : Problem) : Type 0 where
   pub clauses : (c : Clause) → c ∈ p .clauses → c ∈ q .clauses
 
 pub includes-among : (p q : Problem) → Includes p q → Among (taskOf p) (taskOf q)
-unfolding taskOf
+unfolding taskOf fill
 includes-among p q w =
     record {
       clauses = w .clauses;
-      instances = λ i m. let f = instance-filled (p .constants) 1 (p .rules) i m in
-          filled-instance (q .constants) 1 (q .rules) i (record {
-            rule = f .rule;
-            its = w .rules (f .rule) (f .its);
-            filling = f .filling;
-            inside = substitutions-more (p .constants) (q .constants) (w .constants) (variables (f .rule)) (f .filling) (f .inside);
-            heads = f .heads;
-            body = f .body;
-            proper = f .proper;
-          });
+      instances = λ i m. let f = only-fillings p i m in
+          let (place, e) = getElem-at (w .rules (f .rule) (filled-rule f .1)) in
+          let same = fill (suc place) (f .rule) (f .filling) in
+          record {
+            instance = same;
+            inside = every-filling q same (record {
+              place = place;
+              rule = f .rule;
+              its = e;
+              filling = f .filling;
+              inside = substitutions-more (p .constants) (q .constants) (w .constants) (variables (f .rule)) (f .filling) (f .inside);
+              made = refl;
+            });
+            heads = sym (filled-heads f);
+            body = sym (filled-body f);
+          };
     }
 
 map-nil : {A B : Type 0} (g : A → B) (l : List A) → map g l ≡ [] → l ≡ []
@@ -104,20 +111,20 @@ map-nil g (x ∷ xs) e = absurd (cons≢nil e)
 -- an assignment that satisfies every filling respects every instance
 pub satisfies-respects : (v : Assignment) (p : Problem) → Satisfies v p → Respects v (taskOf p)
 unfolding taskOf
-satisfies-respects v p w = record { clauses = w .clauses; instances = λ i m hs. respected i (instance-filled (p .constants) 1 (p .rules) i m) hs }
+satisfies-respects v p w = record { clauses = w .clauses; instances = λ i m hs. respected i (only-fillings p i m) hs }
   where
-    filled : (i : Instance) (f : Filled (p .constants) (p .rules) i) → SatisfiesFilling v (f .rule) (f .filling) → ((h : Literal) → h ∈ i .heads → Makes v h)
+    filled : (i : Instance) (f : FillingOf p i) → SatisfiesFilling v (f .rule) (f .filling) → ((h : Literal) → h ∈ i .heads → Makes v h)
         → (i .body ≡ [] → ⊥) × ((l : Literal) → l ∈ i .body → Makes v l)
     filled i f (headFalse x m n) hs =
-        absurd (makes-not-both v (ground (f .filling) x) (hs (ground (f .filling) x) (subst (λ ls. ground (f .filling) x ∈ ls) (sym (f .heads)) (Memᴰ·map (ground (f .filling)) m))) n)
+        absurd (makes-not-both v (ground (f .filling) x) (hs (ground (f .filling) x) (subst (λ ls. ground (f .filling) x ∈ ls) (sym (filled-heads f)) (Memᴰ·map (ground (f .filling)) m))) n)
     filled i f (bodyTrue ne bs) hs = (
-      λ e. ne (map-nil (ground (f .filling)) (f .rule .body) (sym (f .body) ∙ e)),
-      λ l m. let (x, n, q) = Memᴰ·of-map (ground (f .filling)) (f .rule .body) (subst (λ ls. l ∈ ls) (f .body) m) in subst (Makes v) q (bs x n),
+      λ e. ne (map-nil (ground (f .filling)) (f .rule .body) (sym (filled-body f) ∙ e)),
+      λ l m. let (x, n, q) = Memᴰ·of-map (ground (f .filling)) (f .rule .body) (subst (λ ls. l ∈ ls) (filled-body f) m) in subst (Makes v) q (bs x n),
     )
 
-    respected : (i : Instance) (f : Filled (p .constants) (p .rules) i) → ((h : Literal) → h ∈ i .heads → Makes v h)
+    respected : (i : Instance) (f : FillingOf p i) → ((h : Literal) → h ∈ i .heads → Makes v h)
         → (i .body ≡ [] → ⊥) × ((l : Literal) → l ∈ i .body → Makes v l)
-    respected i f hs = filled i f (w .rules (f .rule) (f .its) (f .filling) (f .inside)) hs
+    respected i f hs = filled i f (w .rules (f .rule) (filled-rule f .1) (f .filling) (f .inside)) hs
 
 -- UNSAT of a problem: one that includes it is never answered UNKNOWN, at any budget, and no assignment satisfies it
 pub larger-never-unknown : (p q : Problem) → Includes p q → (b c : ℕ) (s u : State) → search p b ≡ done Unsat s → search q c ≡ done Unknown u → ⊥

@@ -1,5 +1,6 @@
 pub mod Tests
 pub mod ListLaws
+pub mod DistinctLaws
 pub mod WordLaws
 pub mod InstanceLaws
 pub mod SearchLaws

@@ -2,12 +2,12 @@
 use Prim.Native.Nat.{ℕ, _*_, _≤_}
 use mathlib.Core.Path.{_≡_, refl, sym, ap, subst}
 use mathlib.Core.Logic.{_⊎_, inl, inr}
-use mathlib.Core.Bool.{Bool, true, false, not, _||_}
+use mathlib.Core.Bool.{Bool, true, false, _||_}
 use mathlib.Core.Option.{Option, none, some}
 use mathlib.Core.List.{List, [], _∷_, _++_, List·Memᴰ·head, List·Memᴰ·tail, List·Memᴰ·cases-cons, List·Memᴰ·append-cases, List·Memᴰ·not-nil, Memᴰ·append-left, Memᴰ·append-right, Memᴰ·cast, head-eq-of-cons-eq, tail-eq-of-cons-eq}
 use native.Mathlib.Omega.{arith}
 use lib.ListN.{length, length-append}
-use Rattle.definitions.specs.Lists.{_∈_, isEmpty, any, all, filter, find, distinct, firstSome, joined}
+use Rattle.definitions.specs.Lists.{_∈_, isEmpty, any, all, filter, find, firstSome, joined}
 use Rattle.theory.specs.Tests.{by-test, by-option, apart, none≢some}
 
 -- an element of a list that is split
@@ -172,30 +172,6 @@ module _ {A B : Type 0} (f : A → List B) where
   unfolding joined
   joined-append [] ys = refl
   joined-append (x ∷ xs) ys = cc (joined-append xs ys, mathlib.Core.List.append-assoc (f x) (joined f xs) (joined f ys))
-
-module _ {A : Type 0} (same : A → A → Bool) where
-  pub distinct-in : (xs : List A) (x : A) → x ∈ distinct same xs → x ∈ xs
-  unfolding distinct
-  distinct-in [] x m = absurd (List·Memᴰ·not-nil m)
-  distinct-in (y ∷ ys) x m =
-      elim (List·Memᴰ·cases-cons m) [
-        | inl q ↦ List·Memᴰ·head q
-        | inr n ↦ List·Memᴰ·tail (distinct-in ys x (filter-in _ (distinct same ys) x n .0))
-      ]
-
-  pub distinct-length : (xs : List A) → length (distinct same xs) ≤ length xs
-  unfolding distinct
-  distinct-length [] = omega arith
-  distinct-length (y ∷ ys) = omega (arith, distinct-length ys, filter-length (λ x. not (same y x)) (distinct same ys))
-
-  module _ (eq : (x y : A) → same x y ≡ true → x ≡ y) where
-    pub distinct-of : (xs : List A) (x : A) → x ∈ xs → x ∈ distinct same xs
-    unfolding distinct
-    distinct-of (y ∷ ys) x (List·Memᴰ·head q) = List·Memᴰ·head q
-    distinct-of (y ∷ ys) x (List·Memᴰ·tail m) =
-        by-test (same y x)
-        (λ e. List·Memᴰ·head (sym (eq y x e)))
-        (λ e. List·Memᴰ·tail (filter-of _ (distinct same ys) x (distinct-of ys x m) (cc)))
 
 -- no element stands twice
 abbrev pub Different : {A : Type 0} → List A → Type 0

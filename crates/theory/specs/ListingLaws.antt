@@ -19,7 +19,8 @@ use Rattle.definitions.specs.Listing.{Field, decimals, signedDecimals, rightJus
 use Rattle.definitions.specs.declared.Verdict.{Verdict}
 use Rattle.definitions.specs.declared.Verdict.the-variants.{Unsat, Unknown, Spent, Full}
 use Rattle.theory.specs.Tests.{by-test}
-use Rattle.theory.specs.ListLaws.{distinct-length, filter-in, filter-length, joined-in, joined-append, joined-length, Each, each-nil, each-cons, each-append}
+use Rattle.theory.specs.DistinctLaws.{distinct-length}
+use Rattle.theory.specs.ListLaws.{filter-in, filter-length, joined-in, joined-append, joined-length, Each, each-nil, each-cons, each-append}
 
 -- ── a column ──
 

@@ -1,17 +1,19 @@
 -- Lists by place: the element at a place, rising numbers, words joined in equal lengths, lists that agree place by place, and
 -- kept and first elements. Assumes nothing.
-use Prim.Native.Nat.{ℕ, zero, suc, _+_, _*_, _<_}
+use Prim.Native.Nat.{ℕ, zero, suc, _+_, _*_, _≤_, _<_}
 use mathlib.Core.Path.{_≡_, refl, sym, ap, _∙_}
+use mathlib.Core.Logic.{_⊎_, inl, inr}
 use mathlib.Core.Bool.{Bool}
 use mathlib.Core.Option.{none, some}
-use mathlib.Core.List.{List, [], _∷_, _++_, map, List·Memᴰ·head, List·Memᴰ·tail}
+use mathlib.Core.List.{List, [], _∷_, _++_, map, List·Memᴰ·head, List·Memᴰ·tail, List·Memᴰ·cases-cons, List·Memᴰ·not-nil}
 use native.Mathlib.Omega.{arith}
+use lib.Dec.{eqb}
 use lib.ListN.{length, getD, getElem?, length-append, List·getD-append}
 use lib.Seq.{getD-append-add}
-use Rattle.definitions.specs.Lists.{_∈_, isEmpty, any, all, filter, find, joined, allDifferent, upFrom}
+use borrow.Author.Tests.{eqb-true, eqb-false}
+use Rattle.definitions.specs.Lists.{_∈_, isEmpty, any, all, filter, find, joined, upFrom}
 use Rattle.theory.specs.Tests.{by-test, apart, none≢some, some-injective}
 use Rattle.theory.specs.ListLaws.{filter-in, Different}
-use Rattle.theory.specs.InstanceLaws.{upFrom-in}
 
 -- ── the element at a place ──
 
@@ -25,6 +27,11 @@ pub getElem-of : {A : Type 0} (l : List A) (i : ℕ) → i < length l → (x : A
 getElem-of [] i h = absurd (omega arith)
 getElem-of (y ∷ l) zero h = (y, refl)
 getElem-of (y ∷ l) (suc i) h = getElem-of l i (omega arith)
+
+-- and each element has its place
+pub getElem-at : {A : Type 0} {x : A} {l : List A} → x ∈ l → (i : ℕ) × (getElem? l i ≡ some x)
+getElem-at (List·Memᴰ·head e) = (0, ap some (sym e))
+getElem-at (List·Memᴰ·tail m) = let (i, e) = getElem-at m in (suc i, e)
 
 pub getElem-left : {A : Type 0} (xs ys : List A) (i : ℕ) (x : A) → getElem? xs i ≡ some x → getElem? (xs ++ ys) i ≡ some x
 getElem-left [] ys i x e = none≢some e
@@ -64,6 +71,25 @@ map-upFrom g h a b (suc k) e =
         let aj : suc a + j ≡ a + suc j = omega arith in
         let bj : suc b + j ≡ b + suc j = omega arith in
         cc (e (suc j) (omega arith))
+
+-- a rising list of numbers holds just those in its range
+pub upFrom-in : (first n c : ℕ) → c ∈ upFrom first n → (first ≤ c) × (c < first + n)
+unfolding upFrom
+upFrom-in first zero c m = absurd (List·Memᴰ·not-nil m)
+upFrom-in first (suc n) c m =
+    elim (List·Memᴰ·cases-cons m) [
+      | inl q ↦ (omega arith, omega arith)
+      | inr k ↦ let (a, b) = upFrom-in (suc first) n c k in (omega arith, omega arith)
+    ]
+
+first-or-later : (a b : ℕ) → a ≤ b → (a ≡ b) ⊎ (suc a ≤ b)
+first-or-later a b h = by-test (eqb a b) (λ e. inl (eqb-true a b e)) (λ e. inr (let n = eqb-false a b e in omega arith))
+
+pub in-upFrom : (first n c : ℕ) → first ≤ c → c < first + n → c ∈ upFrom first n
+unfolding upFrom
+in-upFrom first zero c a b = absurd (omega arith)
+in-upFrom first (suc n) c a b =
+    elim (first-or-later first c a) [ inl q ↦ List·Memᴰ·head (sym q) | inr l ↦ List·Memᴰ·tail (in-upFrom (suc first) n c l (omega arith)) ]
 
 -- rising numbers differ, and so do those that are kept of them
 pub upFrom-different : (a k : ℕ) → Different (upFrom a k)
@@ -129,15 +155,6 @@ module _ {A B : Type 0} (R : A → B → Type 0) where
     all-alike [] (y ∷ ys) h = absurd h
     all-alike (x ∷ xs) [] h = absurd h
     all-alike (x ∷ xs) (y ∷ ys) h = cc (same x y (h .0), all-alike xs ys (h .1))
-
-  pub allDifferent-alike : (f : A → A → Bool) (g : B → B → Bool) → ((x x′ : A) (y y′ : B) → R x y → R x′ y′ → f x x′ ≡ g y y′)
-      → (xs : List A) (ys : List B) → Alike xs ys → allDifferent f xs ≡ allDifferent g ys
-  unfolding allDifferent
-  allDifferent-alike f g same [] [] h = refl
-  allDifferent-alike f g same [] (y ∷ ys) h = absurd h
-  allDifferent-alike f g same (x ∷ xs) [] h = absurd h
-  allDifferent-alike f g same (x ∷ xs) (y ∷ ys) h =
-      cc (any-alike (f x) (g y) (λ x′ y′ k. same x x′ y y′ (h .0) k) xs ys (h .1), allDifferent-alike f g same xs ys (h .1))
 
 -- ── kept and first elements ──
 

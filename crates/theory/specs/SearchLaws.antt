@@ -3,14 +3,15 @@ use mathlib.Core.Path.{_≡_, refl, sym, _∙_, ap}
 use mathlib.Core.Logic.{_⊎_, inl, inr}
 use mathlib.Core.Bool.{Bool, true, false, not, _&&_, _||_}
 use mathlib.Core.Option.{Option, none, some}
-use mathlib.Core.List.{List, [], _∷_, map, List·Memᴰ·head, List·Memᴰ·tail, List·Memᴰ·cases-cons, List·Memᴰ·append-cases, List·Memᴰ·eq-of-singleton, List·Memᴰ·not-nil, Memᴰ·append-left, Memᴰ·append-right, Memᴰ·cast, Memᴰ·map, Memᴰ·of-map}
+use mathlib.Core.List.{List, [], _∷_, _++_, map, List·Memᴰ·head, List·Memᴰ·tail, List·Memᴰ·cases-cons, List·Memᴰ·append-cases, List·Memᴰ·eq-of-singleton, List·Memᴰ·not-nil, Memᴰ·append-left, Memᴰ·append-right, Memᴰ·cast, Memᴰ·map, Memᴰ·of-map}
 use borrow.Author.Tests.{not-true}
 use Rattle.definitions.specs.Lists.{_∈_, isEmpty, any, all, filter, distinct, listOf, firstSome}
 use Rattle.definitions.specs.Words.{Atom, Literal, negate, plain, sameAtom, sameLiteral, Clause, goalAtoms}
 use Rattle.definitions.specs.Instances.{Instance, Task}
 use Rattle.definitions.specs.Search.{Why, decided, flipped, forced, Entry, Trail, isTrue, isFalse, isUnset, Logged, clauseOf, State, Act, conflict, force, notFalse, actOn, isGoal, goalAct, loggedAct, nextAct, fires, nextInstance, loggedOf, enter, enterTaken, nextGoal}
 use Rattle.theory.specs.Tests.{by-test, by-option, apart, true-and-false, and-left, and-right, or-cases}
-use Rattle.theory.specs.ListLaws.{empty-nil, First, find-first, find-in, find-passes, find-none, any-some, any-of, all-each, all-of, filter-of, filter-in, filter-none, firstSome-in, firstSome-none, distinct-in, distinct-of}
+use Rattle.theory.specs.ListLaws.{empty-nil, First, find-first, find-in, find-passes, find-none, any-some, any-of, all-each, all-of, filter-of, filter-in, filter-none, firstSome-in, firstSome-none}
+use Rattle.theory.specs.DistinctLaws.{distinct-in, distinct-of, all-distinct, distinct-twice}
 use Rattle.theory.specs.WordLaws.{sameAtom-eq, sameAtom-refl, sameLiteral-eq, sameLiteral-refl, eq-sameLiteral, negate-negate, same-or-negated}
 
 -- ── literals on the trail ──
@@ -108,6 +109,15 @@ pub clause-taken : (g : Logged) (l : Literal) → g .taken ≡ some l → l ∈ 
 unfolding clauseOf listOf
 clause-taken g l e =
     distinct-of sameLiteral sameLiteral-eq _ l (Memᴰ·append-right (map negate (g .instance .heads)) (rw (e, listOf) (List·Memᴰ·head refl)))
+
+-- a literal already written is not repeated
+pub clause-once : (g : Logged) → distinct sameLiteral (clauseOf g) ≡ clauseOf g
+unfolding clauseOf
+clause-once g = distinct-twice sameLiteral sameLiteral-eq sameLiteral-refl (map negate (g .instance .heads) ++ listOf (g .taken))
+
+-- and whether all heads are true can be asked of the different ones
+pub heads-once : (t : Trail) (i : Instance) → all (isTrue t) (distinct sameLiteral (i .heads)) ≡ all (isTrue t) (i .heads)
+heads-once t i = all-distinct sameLiteral sameLiteral-eq (isTrue t) (i .heads)
 
 -- a literal of it is a negated head, or the one taken
 pub clause-cases : (g : Logged) (l : Literal) → l ∈ clauseOf g → ((h : Literal) × (h ∈ g .instance .heads) × (l ≡ negate h)) ⊎ (g .taken ≡ some l)

@@ -1,22 +1,21 @@
 -- Where the search of an accepted sheet ends, the listing has at most 44,841 bytes and every number fits its column: symbols,
 -- constants and rule numbers keep the limits of the sheet. Assumes nothing.
-use Prim.Native.Nat.{ℕ, suc, _+_, _-_, _^_, _≤_, _<_}
+use Prim.Native.Nat.{ℕ, _-_, _^_, _≤_, _<_}
 use mathlib.Core.Path.{_≡_, refl, sym, ap, subst, _∙_}
 use mathlib.Core.Logic.{inl, inr}
-use mathlib.Core.List.{List, [], _∷_, List·Memᴰ·head, List·Memᴰ·tail, List·Memᴰ·not-nil, List·Memᴰ·append-cases, Memᴰ·of-map}
+use mathlib.Core.List.{List, [], _∷_, List·Memᴰ·head, List·Memᴰ·tail, Memᴰ·of-map}
 use native.Mathlib.Omega.{arith}
 use lib.Dec.{eqb}
 use lib.ListN.{length, length-map}
 use Rattle.definitions.specs.Lists.{_∈_}
-use Rattle.definitions.specs.Words.{Atom, Literal, plain, Term, variable, constant, Pattern, Rule, Problem, goalAtoms}
-use Rattle.definitions.specs.Instances.{Substitution, Binding, valueOf, termValue, ground, variables, substitutions, Instance, fill, isProper, ruleInstances, instancesFrom, taskOf}
+use Rattle.definitions.specs.Words.{Atom, Literal, plain, Term, variable, constant, Pattern, Problem, goalAtoms}
+use Rattle.definitions.specs.Instances.{Substitution, Binding, valueOf, termValue, ground, variables, Instance, fill, taskOf}
 use Rattle.definitions.specs.Search.{isFalse, State, done, search}
 use Rattle.definitions.specs.declared.Verdict.{Verdict}
 use Rattle.theory.specs.Tests.{by-test}
-use Rattle.theory.specs.ListLaws.{filter-in}
 use Rattle.theory.specs.WordLaws.{negate-atom, goal-from}
 use Rattle.theory.specs.SearchLaws.{clause-cases}
-use Rattle.theory.specs.InstanceLaws.{substitution-sound, instance-filled}
+use Rattle.theory.specs.InstanceLaws.{substitution-sound, only-fillings, filled-rule, filled-heads, filled-body}
 use Rattle.theory.specs.Counts.{decisions-within-budget, conflicts-at-most-decisions-plus-1, limits-kept}
 use Rattle.theory.specs.Sources.{search-sourced}
 use Rattle.theory.specs.Unknown.{consistent}
@@ -32,18 +31,6 @@ value-limit (b ∷ bs) n v h =
     by-test (eqb (b .variable) v)
     (λ e. rw (e, valueOf) (h b (List·Memᴰ·head refl)))
     (λ e. rw (e, valueOf) (value-limit bs n v (λ x m. h x (List·Memᴰ·tail m))))
-
--- the instances of rules that are numbered from a number on have those numbers
-number-limit : (n number : ℕ) (rs : List Rule) (i : Instance) → i ∈ instancesFrom n number rs → i .rule < number + length rs
-unfolding instancesFrom ruleInstances fill
-number-limit n number [] i m = absurd (List·Memᴰ·not-nil m)
-number-limit n number (r ∷ rs) i m =
-    elim (List·Memᴰ·append-cases (ruleInstances n number r) m) [
-      | inl j ↦ let (f, w, q) = Memᴰ·of-map (fill number r) (substitutions n (variables r)) (filter-in isProper _ i j .0) in
-          let e : number ≡ i .rule = ap (λ (x : Instance). x .rule) q in
-          omega arith
-      | inr j ↦ omega (arith, number-limit n (suc number) rs i j)
-    ]
 
 module _ (p : Problem) (limits : Limits p) where
   -- a filled literal of a rule
@@ -78,17 +65,17 @@ module _ (p : Problem) (limits : Limits p) where
     pub body : (l : Literal) → l ∈ i .body → AtomListable (l .atom)
 
   pub instance-listable : (i : Instance) → i ∈ taskOf p .instances → InstanceListable i
-  unfolding taskOf
+  unfolding fill
   instance-listable i m =
-      let f = instance-filled (p .constants) 1 (p .rules) i m in
-      let r = limits .eachRule (f .rule) (f .its) in
+      let f = only-fillings p i m in
+      let r = limits .eachRule (f .rule) (filled-rule f .1) in
       let sound : (b : Binding) → b ∈ f .filling → b .constant ≤ p .constants = λ b j. substitution-sound (p .constants) (variables (f .rule)) (f .filling) (f .inside) b j .1 in
       record {
-        rule = omega (arith, number-limit (p .constants) 1 (p .rules) i m, limits .rules);
-        heads = omega (arith, ap length (f .heads), length-map (f .rule .heads) (ground (f .filling)), r .heads);
-        head = λ l n. let (x, j, q) = Memᴰ·of-map (ground (f .filling)) (f .rule .heads) (subst (λ ls. l ∈ ls) (f .heads) n) in
+        rule = omega (arith, ap (λ (x : Instance). x .rule) (f .made), filled-rule f .0, limits .rules);
+        heads = omega (arith, ap length (filled-heads f), length-map (f .rule .heads) (ground (f .filling)), r .heads);
+        head = λ l n. let (x, j, q) = Memᴰ·of-map (ground (f .filling)) (f .rule .heads) (subst (λ ls. l ∈ ls) (filled-heads f) n) in
             subst (λ (y : Literal). AtomListable (y .atom)) q (pattern-listable (f .filling) sound x (r .eachHead x j));
-        body = λ l n. let (x, j, q) = Memᴰ·of-map (ground (f .filling)) (f .rule .body) (subst (λ ls. l ∈ ls) (f .body) n) in
+        body = λ l n. let (x, j, q) = Memᴰ·of-map (ground (f .filling)) (f .rule .body) (subst (λ ls. l ∈ ls) (filled-body f) n) in
             subst (λ (y : Literal). AtomListable (y .atom)) q (pattern-listable (f .filling) sound x (r .eachBody x j));
       }
 

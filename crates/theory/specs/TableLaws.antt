@@ -1,18 +1,19 @@
 -- The table: new atoms enter at its end, none stands twice, the goal atoms enter clause by clause, and each atom has a position of its
 -- own, which no atom that enters behind changes. Assumes nothing.
 use Prim.Native.Nat.{ℕ, zero, suc, _<_}
-use mathlib.Core.Path.{_≡_, refl, sym, _∙_, ap, subst}
+use mathlib.Core.Path.{_≡_, refl, sym, _∙_, ap}
 use mathlib.Core.Logic.{inl, inr}
-use mathlib.Core.Bool.{Bool, true, false, not}
+use mathlib.Core.Bool.{true, false}
 use mathlib.Core.Option.{some}
 use mathlib.Core.List.{List, [], _∷_, _++_, map, List·Memᴰ·head, List·Memᴰ·tail, List·Memᴰ·cases-cons, List·Memᴰ·not-nil, Memᴰ·cast, append-nil, append-assoc, map-append}
 use native.Mathlib.Omega.{arith}
 use lib.ListN.{length, getElem?}
-use Rattle.definitions.specs.Lists.{_∈_, any, filter, distinct, joined}
+use Rattle.definitions.specs.Lists.{_∈_, distinct, joined}
 use Rattle.definitions.specs.Words.{Atom, Literal, sameAtom, Clause, goalAtoms, position}
 use Rattle.definitions.specs.Search.{enter}
 use Rattle.theory.specs.Tests.{by-test, true-and-false, none≢some, some-injective}
-use Rattle.theory.specs.ListLaws.{any-some, any-of, any-none, filter-of, filter-in, filter-append, joined-append, Different, different-more, each-nil, each-cons, each-append}
+use Rattle.theory.specs.DistinctLaws.{distinct-different, added, by-member, added-known, added-new, distinct-added}
+use Rattle.theory.specs.ListLaws.{joined-append, Different, different-more, each-nil, each-cons, each-append}
 use Rattle.theory.specs.PlaceLaws.{getElem-in}
 use Rattle.theory.specs.WordLaws.{sameAtom-eq, sameAtom-refl}
 
@@ -21,53 +22,28 @@ unfoldable pub enterAll : List Atom → List Atom → List Atom
 enterAll table [] = table
 enterAll table (a ∷ more) = enterAll (enter table a) more
 
-pub by-member : (a : Atom) (table : List Atom) {C : Type 0} → (a ∈ table → C) → ((a ∈ table → ⊥) → C) → C
-by-member a table known new =
-    by-test (any (sameAtom a) table)
-    (λ e. let (x, m, q) = any-some (sameAtom a) table e in known (Memᴰ·cast (sameAtom-eq a x q) m))
-    (λ e. new (λ m. true-and-false (sameAtom-refl a) (any-none (sameAtom a) table e a m)))
+pub by-known : (a : Atom) (table : List Atom) {C : Type 0} → (a ∈ table → C) → ((a ∈ table → ⊥) → C) → C
+by-known = by-member sameAtom sameAtom-eq sameAtom-refl
+
+enter-added : (table : List Atom) (a : Atom) → enter table a ≡ added sameAtom table a
+unfolding enter added
+enter-added table a = refl
 
 pub enter-known : (table : List Atom) (a : Atom) → a ∈ table → enter table a ≡ table
-unfolding enter
-enter-known table a m = cc (any-of (sameAtom a) table a m (sameAtom-refl a))
+enter-known table a m = enter-added table a ∙ added-known sameAtom sameAtom-eq sameAtom-refl table a m
 
 pub enter-fresh : (table : List Atom) (a : Atom) → (a ∈ table → ⊥) → enter table a ≡ table ++ (a ∷ [])
-unfolding enter
-enter-fresh table a out =
-    by-test (any (sameAtom a) table)
-    (λ e. let (x, m, q) = any-some (sameAtom a) table e in absurd (out (Memᴰ·cast (sameAtom-eq a x q) m)))
-    (λ e. cc)
+enter-fresh table a out = enter-added table a ∙ added-new sameAtom sameAtom-eq sameAtom-refl table a out
 
 pub enter-different : (table : List Atom) (a : Atom) → Different table → Different (enter table a)
 enter-different table a d =
-    by-member a table (λ m. rw (enter-known table a m) d) (λ out. rw (enter-fresh table a out) (different-more table a d out))
+    by-known a table (λ m. rw (enter-known table a m) d) (λ out. rw (enter-fresh table a out) (different-more table a d out))
 
 pub enter-each : (P : Atom → Type 0) (gs : List Atom) (a : Atom) → ((g : Atom) → g ∈ gs → P g) → P a → (g : Atom) → g ∈ enter gs a → P g
 enter-each P gs a each h =
-    by-member a gs
+    by-known a gs
     (λ m. rw (enter-known gs a m) each)
     (λ out. rw (enter-fresh gs a out) (each-append P gs each (each-cons P h (each-nil P))))
-
--- a new element of a list is the last of the different ones
-distinct-enter : (xs : List Atom) (a : Atom) → distinct sameAtom (xs ++ (a ∷ [])) ≡ enter (distinct sameAtom xs) a
-unfolding distinct enter any filter
-distinct-enter [] a = refl
-distinct-enter (x ∷ xs) a =
-    let others : Atom → Bool = λ y. not (sameAtom x y) in
-    let rest = distinct sameAtom xs in
-    let ih : distinct sameAtom (xs ++ (a ∷ [])) ≡ enter rest a = distinct-enter xs a in
-    by-test (sameAtom x a)
-    (λ e. let here = enter-known (x ∷ filter others rest) a (List·Memᴰ·head (sym (sameAtom-eq x a e))) in
-    by-member a rest
-    (λ m. cc (ih, here, enter-known rest a m))
-    (λ out. cc (ih, here, enter-fresh rest a out, filter-append others rest (a ∷ []), append-nil (filter others rest))))
-    (λ e. by-member a rest
-    (λ m. cc (ih, enter-known rest a m, enter-known (x ∷ filter others rest) a (List·Memᴰ·tail (filter-of others rest a m (cc)))))
-    (λ out. let fresh : a ∈ x ∷ filter others rest → ⊥ = λ m. elim (List·Memᴰ·cases-cons m) [
-      | inl q ↦ true-and-false (rw q (sameAtom-refl x)) e
-      | inr k ↦ out (filter-in others rest a k .0)
-    ] in
-    cc (ih, enter-fresh rest a out, enter-fresh (x ∷ filter others rest) a fresh, filter-append others rest (a ∷ []))))
 
 distinct-enter-all : (xs ys : List Atom) → distinct sameAtom (xs ++ ys) ≡ enterAll (distinct sameAtom xs) ys
 unfolding enterAll
@@ -75,7 +51,7 @@ distinct-enter-all xs [] = rw (append-nil xs)
 distinct-enter-all xs (y ∷ ys) =
     ap (distinct sameAtom) (sym (append-assoc xs (y ∷ []) ys))
     ∙ distinct-enter-all (xs ++ (y ∷ [])) ys
-    ∙ ap (λ t. enterAll t ys) (distinct-enter xs y)
+    ∙ ap (λ t. enterAll t ys) (distinct-added sameAtom sameAtom-eq sameAtom-refl xs y ∙ sym (enter-added (distinct sameAtom xs) y))
 
 pub joined-more : {A B : Type 0} (f : A → List B) (xs : List A) (x : A) → joined f (xs ++ (x ∷ [])) ≡ joined f xs ++ f x
 unfolding joined
@@ -94,21 +70,14 @@ goal-atoms-more cs c =
     ∙ ap (distinct sameAtom) (map-append (λ (l : Literal). l .atom) all c)
     ∙ distinct-enter-all (map (λ (l : Literal). l .atom) all) (map (λ (l : Literal). l .atom) c)
 
-enter-all-different : (table more : List Atom) → Different table → Different (enterAll table more)
-unfolding enterAll
-enter-all-different table [] d = d
-enter-all-different table (a ∷ more) d = enter-all-different (enter table a) more (enter-different table a d)
-
 pub goal-atoms-different : (cs : List Clause) → Different (goalAtoms cs)
-unfolding goalAtoms distinct
-goal-atoms-different cs =
-    let all = map (λ (l : Literal). l .atom) (joined (λ (x : Clause). x) cs) in
-    subst Different (sym (distinct-enter-all [] all)) (enter-all-different [] all tt)
+unfolding goalAtoms
+goal-atoms-different cs = distinct-different sameAtom sameAtom-refl (map (λ (l : Literal). l .atom) (joined (λ (c : Clause). c) cs))
 
 -- the table grows at its end
 pub enter-behind : (table : List Atom) (a : Atom) → (more : List Atom) × (enter table a ≡ table ++ more)
 enter-behind table a =
-    by-member a table (λ m. ([], enter-known table a m ∙ sym (append-nil table))) (λ out. (a ∷ [], enter-fresh table a out))
+    by-known a table (λ m. ([], enter-known table a m ∙ sym (append-nil table))) (λ out. (a ∷ [], enter-fresh table a out))
 
 pub enter-all-behind : (table as′ : List Atom) → (more : List Atom) × (enterAll table as′ ≡ table ++ more)
 unfolding enterAll

@@ -10,7 +10,8 @@ use Rattle.definitions.specs.Lists.{_∈_, joined}
 use Rattle.definitions.specs.Words.{Atom, Literal, negate, plain, sameArgs, sameAtom, sameLiteral, Clause, goalAtoms}
 use Rattle.definitions.specs.Meaning.{Assignment, Makes}
 use Rattle.theory.specs.Tests.{by-test, apart}
-use Rattle.theory.specs.ListLaws.{joined-of, joined-in, distinct-in, distinct-of}
+use Rattle.theory.specs.ListLaws.{joined-of, joined-in}
+use Rattle.theory.specs.DistinctLaws.{distinct-in, distinct-of}
 
 pub atom-ext : {a b : Atom} → a .symbol ≡ b .symbol → a .args ≡ b .args → a ≡ b
 atom-ext p q = λ i. record { symbol = p i; args = q i }

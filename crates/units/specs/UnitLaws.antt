@@ -3,17 +3,18 @@ use Prim.Native.Nat.{ℕ, suc, _+_, _-_, _*_, _≤_, _<_}
 use mathlib.Core.Path.{_≡_, refl, sym, _∙_, ap, subst}
 use mathlib.Core.Bool.{Bool, true, false}
 use mathlib.Core.Option.{Option, none, some}
-use mathlib.Core.List.{List, [], _∷_, _++_, List·Memᴰ·head, List·Memᴰ·tail, Memᴰ·append-left, Memᴰ·cast, Memᴰ·map}
+use mathlib.Core.List.{List, [], _∷_, _++_, map, List·Memᴰ·head, List·Memᴰ·tail, Memᴰ·append-left, Memᴰ·cast, Memᴰ·map}
 use native.Mathlib.Omega.{arith}
-use lib.Dec.{leb, ltb}
+use lib.Dec.{eqb, leb, ltb}
 use lib.ListN.{length, getD, take, drop, getElem?, length-take}
 use lib.Seq.{take-take, take-all, take-add}
-use borrow.Author.Tests.{leb-true, leb-false, lt-ltb, le-ltb}
+use borrow.Author.Tests.{eqb-true, leb-true, leb-false, lt-ltb, le-ltb}
 use Rattle.definitions.specs.Lists.{_∈_, all, firstSome}
 use Rattle.definitions.specs.Words.{Atom, Literal, negate, sameAtom, Clause, goalAtoms, position}
 use Rattle.definitions.specs.Instances.{Task}
 use Rattle.definitions.specs.Search.{Trail, isTrue, isUnset, Logged, clauseOf, State, Act, conflict, force, notFalse, actOn, isGoal, goalAct, loggedAct, nextAct}
 use Rattle.theory.specs.Tests.{by-test, by-option, true-and-false}
+use Rattle.theory.specs.DistinctLaws.{all-distinct}
 use Rattle.theory.specs.WordLaws.{sameAtom-eq, negate-atom, goal-of}
 use Rattle.theory.specs.SearchLaws.{Consistent, clause-head, isGoal-in, in-isGoal, mayLogged}
 use Rattle.theory.specs.TableLaws.{position-inside, position-append}
@@ -146,6 +147,7 @@ module _ (k : Task) (s : State) (created : List Atom) (values : Values) (starts 
     heads-stand : all (falseWord values) (take (getD heads n 0) (clauseAt starts literals (given + n))) ≡ all (isTrue (s .trail)) (g .instance .heads)
     heads-stand =
         ap (all (falseWord values)) (stand .negated n g e)
+        ∙ all-distinct eqb eqb-true (falseWord values) (clauseWords (s .table) (map negate (g .instance .heads)))
         ∙ heads-false (s .table) (s .trail) values consistent valued (g .instance .heads) (λ h m. Memᴰ·cast (sym (negate-atom h)) (its-atoms (negate h) (clause-head g h m)))
 
     -- words that are taken from behind the clause change nothing: its own are then not all false
