@@ -71,12 +71,16 @@ def line(count):
 # ---- b: decisions and conflicts
 
 def pigeons(pigeon_count, hole_count):
-    """Each pigeon has a hole, no hole has two: UNSAT if there are too few holes."""
+    """Each pigeon has a hole, no hole has two: UNSAT if there are too few holes. Which are two is told, since
+    one literal may serve two heads."""
     sheet = Sheet(max(pigeon_count, hole_count))
-    sits = sheet.symbol(2)
-    sheet.rule([(sits, 1, 3), (sits, 2, 3)], [])
+    sits, other = sheet.symbol(2), sheet.symbol(2)
+    sheet.rule([(sits, 1, 3), (sits, 2, 3), (other, 1, 2)], [])
     for pigeon in range(1, pigeon_count + 1):
         sheet.clause(*[(sits, pigeon, hole) for hole in range(1, hole_count + 1)])
+    for pigeon in range(1, pigeon_count + 1):
+        for higher in range(pigeon + 1, pigeon_count + 1):
+            sheet.clause((other, pigeon, higher))
     return sheet
 
 
