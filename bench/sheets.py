@@ -71,8 +71,8 @@ def line(count):
 # ---- b: decisions and conflicts
 
 def pigeons(pigeon_count, hole_count):
-    """Each pigeon has a hole, no hole has two: UNSAT if there are too few holes. Which are two is told, since
-    one literal may serve two heads."""
+    """Each pigeon has a hole, no hole has two: UNSAT if there are too few holes. A third head says which are
+    two, since one literal may serve two heads."""
     sheet = Sheet(max(pigeon_count, hole_count))
     sits, other = sheet.symbol(2), sheet.symbol(2)
     sheet.rule([(sits, 1, 3), (sits, 2, 3), (other, 1, 2)], [])

@@ -45,7 +45,7 @@ fn sheet(random: &mut Random) -> (Vec<u8>, bool) {
         400..=599 => (text(&order(random)), false),
         600..=999 => (text(&derived(random)), false),
         1000..=1099 => (text(&joins(random)), false),
-        1100..=1299 => (text(&alike(random)), false),
+        1100..=1299 => (text(&heads_alike(random)), false),
         _ => (text(&general(random)), false),
     }
 }
@@ -90,7 +90,7 @@ pub struct Style {
     /// Constants among the arguments in rules.
     pub constant_terms: usize,
     /// The heads with symbol and sign of an earlier one, so that a filling can make both one literal.
-    pub alike: usize,
+    pub heads_alike: usize,
     /// The rules whose heads stay as they come, so that question 14 turns some away.
     pub unmended: usize,
 }
@@ -115,7 +115,7 @@ pub fn any_style(random: &mut Random, constants: usize, arities: Vec<usize>) -> 
         negated_bodies: *random.pick(&[0, 20, 40, 60]),
         false_bodies: *random.pick(&[0, 20, 50]),
         constant_terms: 12,
-        alike: 12,
+        heads_alike: 12,
         unmended: 4,
     }
 }
@@ -220,7 +220,7 @@ fn rule_with(random: &mut Random, style: &Style, head_count: usize) -> Row {
         let head = match (random.below(100), earlier) {
             (0..=2, Some(earlier)) => earlier,
             (3..=5, Some(earlier)) => negated(&earlier),
-            (share, Some(mut again)) if share < 6 + style.alike => {
+            (share, Some(mut again)) if share < 6 + style.heads_alike => {
                 for term in &mut again[1..] {
                     *term = *random.pick(&names);
                 }
@@ -474,12 +474,12 @@ fn joins(random: &mut Random) -> Vec<Row> {
 
 /// Heads alike in symbol and sign over few constants, so that one literal serves two or three of them; atoms
 /// that rules create stand in such heads too, with decisions that undo them.
-fn alike(random: &mut Random) -> Vec<Row> {
+fn heads_alike(random: &mut Random) -> Vec<Row> {
     let constants = *random.pick(&[1, 2, 2, 3]);
     let goal = [1, 2];
     let arities = [1, 2, 1, 2, 1].to_vec();
     let mut style = any_style(random, constants, arities);
-    style.alike = 70;
+    style.heads_alike = 70;
     style.negated_heads = *random.pick(&[0, 10, 30]);
     style.bodies = vec![1, 2, 3, 3, 4, 4, 5, 5];
     let mut rows = style.rows();

@@ -39,6 +39,10 @@ module _ {A : Type 0} where
   distinct same [] = []
   distinct same (x ∷ xs) = x ∷ filter (λ y. not (same x y)) (distinct same xs)
 
+  -- one element more, behind the others, unless it is one of them
+  unfoldable pub added : (A → A → Bool) → List A → A → List A
+  added same xs x = elim (any (same x) xs) [ true ↦ xs | false ↦ xs ++ (x ∷ []) ]
+
   -- the value, if there is one
   unfoldable pub listOf : Option A → List A
   listOf none = []
@@ -62,5 +66,5 @@ upFrom first (suc n) = first ∷ upFrom (suc first) n
 
 -- names every definition of this module, for a theorem that computes with all of them
 unfoldable pub Lists·all : Unit {0}
-unfolding isEmpty any all filter find distinct listOf firstSome joined upFrom
+unfolding isEmpty any all filter find distinct added listOf firstSome joined upFrom
 Lists·all = tt

@@ -103,7 +103,7 @@ trials =
       budget = 2;
       listing = "   5   1   2   0           2           0" ∷ "   7   1" ∷ "   7   2" ∷ [];
     } ∷
-    -- lt(X,Y) and lt(Y,X) give false; lt(1,1)
+    -- lt(X,Y) and lt(Y,X) give false; lt(1,1). As document 02 has it, 5/14: one literal serves both heads
     record {
       sheet =
           "   1   1" ∷

@@ -444,7 +444,7 @@ onEqualHeads =
           "   6   2   1  -2   1   1" ∷
           "   7  -1   1" ∷ [];
     } ∷
-    -- p(X) and q(X,Y) and p(Y) give false; p(1); q(1,1). Looking for a repeat only beside a head: 3 literals
+    -- p(X) and q(X,Y) and p(Y) give false; p(1); q(1,1). Looking for a repeat only in the head before: 3 literals
     record {
       sheet =
           "   1   1" ∷
@@ -455,6 +455,21 @@ onEqualHeads =
           "   4   1   2   1   1" ∷ [];
       budget = 1000000;
       listing = "   5   0   2   1           0           1" ∷ "   6   1   2  -1   1  -2   1   1" ∷ [];
+    } ∷
+    -- p(X,Y) and p(Y,Z) and p(Z,X) give c(X); p(1,1). Dropping one repeat alone: 3 literals
+    record {
+      sheet =
+          "   1   1" ∷
+          "   2   2" ∷
+          "   2   1" ∷
+          "   3   3   1   1   1   2   1   2   3   1   3   1   2   1" ∷
+          "   4   1   1   1   1" ∷ [];
+      budget = 1000000;
+      listing =
+          "   5   1   2   1           0           0" ∷
+          "   6   1   2  -1   1   1   2   1" ∷
+          "   7   1   1   1" ∷
+          "   7   2   1" ∷ [];
     } ∷
     -- p(X,Y) and p(Y,X) give not p(X,Y); p(1,1). Writing any of the three literals again: 2 or 3 literals
     record {

@@ -29,8 +29,8 @@ Leaves R x = R (x .entry) (x .exit)
 abbrev pub Becomes : {A : Type 0} → (A → A) → Both A A → Type 0
 Becomes f x = x .exit ≡ f (x .entry)
 
--- the clause store: where each clause starts, the words of all their literals, and of each logged clause its number of heads and its
--- rule's number
+-- the clause store: where each clause starts, the words of all their literals, and of each logged clause how many negated heads it
+-- has, repeats dropped, and its rule's number
 pub record ClauseStore : Type 0 where
   pub starts : List ℕ
   pub literals : List ℕ

@@ -7,17 +7,17 @@
 use Prim.Native.Nat.{ℕ, _%_, _≤_}
 use mathlib.Core.Path.{_≡_, ap, _∙_}
 use mathlib.Core.Logic.{_⊎_}
-use mathlib.Core.Bool.{true, false}
-use mathlib.Core.List.{List, _++_}
+use mathlib.Core.Bool.{true, false, _||_}
+use mathlib.Core.List.{List, _++_, map}
 use lib.ListN.{length, take}
 use Rattle.definitions.specs.Lists.{_∈_, all, distinct}
 use Rattle.definitions.specs.Bounds.{sheetBytes, roomBytes, mostAtoms, mostExported, exportBytes}
 use Rattle.definitions.specs.Words.{Atom, Literal, sameLiteral, Rule, Problem}
-use Rattle.definitions.specs.Instances.{Instance, taskOf, FillingOf}
+use Rattle.definitions.specs.Instances.{substitutions, Instance, Task, taskOf, FillingOf}
 use Rattle.definitions.specs.Meaning.{Choice, Fails, Assignment, Satisfies}
 use Rattle.definitions.specs.Sheet.{Line, nothing, decimal}
 use Rattle.definitions.specs.Questions.{Asked, no, yes, columns, connected, Draft, readLine, accepted, read}
-use Rattle.definitions.specs.Search.{Trail, isTrue, Logged, clauseOf, State, start, done, cameTo, run, search}
+use Rattle.definitions.specs.Search.{Trail, isTrue, Logged, clauseOf, notFalse, actOn, isGoal, loggedAct, State, start, done, cameTo, run, search}
 use Rattle.definitions.specs.LiteralTest.{literalTest, TellsApart}
 use Rattle.definitions.specs.Verdicts.{FirstChoice, SpentWhen, FullWhen}
 use Rattle.definitions.specs.Dimacs.{Cnf, cnfOf, headerLine, cnfText, readCnf, CnfLimits}
@@ -27,7 +27,7 @@ use Rattle.definitions.specs.Sheets.{Accepted, Answers, Keeps, passes, FilledAl
 use Rattle.definitions.specs.declared.Verdict.{Verdict}
 use Rattle.definitions.specs.declared.Verdict.the-variants.{Unsat, Unknown, Spent, Full}
 use Rattle.theory.specs.Theorems.{unsat, unknown, spent, full}
-use Rattle.theory.specs.InstanceLaws.{every-filling, only-fillings}
+use Rattle.theory.specs.InstanceLaws.{substitution-complete, every-filling, only-fillings}
 use Rattle.theory.specs.SearchLaws.{clause-once, heads-once}
 use Rattle.theory.specs.CallLaws.{call-comes, answer-from-search, its-search}
 use Rattle.theory.specs.TruthLaws.{search-tells-apart}
@@ -189,18 +189,25 @@ pub request-4-code : (table : List Atom) (t : Trail) (values : Values) → Value
     → literalValue values (literalWord table l) ≡ literalTest t l
 request-4-code = value-test
 
--- 5/14. Every filling of a rule is an instance, under the rule's number, also where one literal serves two heads; and every instance is
--- a filling. Closure, clash and the search speak of these instances, so the demands do.
+-- 5/14. Every filling of a rule is an instance, under the rule's number, also where one literal serves two heads: whatever constants are
+-- put for the rule's variables, that is a filling,
+pub request-5-fillings : (constants : ℕ) (vs : List ℕ) (value : ℕ → ℕ) → ((v : ℕ) → v ∈ vs → (1 ≤ value v) × (value v ≤ constants))
+    → map (λ (v : ℕ). record { variable = v; constant = value v }) vs ∈ substitutions constants vs
+request-5-fillings = substitution-complete
+
+-- and each filling makes an instance;
 pub request-5 : (p : Problem) (i : Instance) → FillingOf p i → i ∈ taskOf p .instances
 request-5 = every-filling
 
+-- there are no others. Closure, clash and the search speak of these instances, so demands 2 and 3 do.
 pub request-5-only : (p : Problem) (i : Instance) → i ∈ taskOf p .instances → FillingOf p i
 request-5-only = only-fillings
 
--- A logged clause repeats no literal, though its heads may,
+-- A logged clause still repeats no literal, though its heads may now,
 pub request-5-once : (g : Logged) → distinct sameLiteral (clauseOf g) ≡ clauseOf g
 request-5-once = clause-once
 
--- and whether all its heads are true, which is asked before it may set a created atom, can be asked of those that are left.
-pub request-5-heads : (t : Trail) (i : Instance) → all (isTrue t) (distinct sameLiteral (i .heads)) ≡ all (isTrue t) (i .heads)
+-- and whether all its head literals are true, as they have to be for it to set a created atom, is asked of the different ones.
+pub request-5-heads : (k : Task) (t : Trail) (g : Logged)
+    → loggedAct k t g ≡ actOn t (λ (l : Literal). isGoal k l || all (isTrue t) (distinct sameLiteral (g .instance .heads))) (notFalse t (clauseOf g))
 request-5-heads = heads-once

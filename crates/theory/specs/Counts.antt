@@ -9,7 +9,7 @@ use native.Mathlib.Omega.{arith}
 use lib.Dec.{leb, ltb}
 use lib.ListN.{length, length-append}
 use borrow.Author.Tests.{leb-false, ltb-true, ltb-false}
-use Rattle.definitions.specs.Lists.{_∈_, any, all}
+use Rattle.definitions.specs.Lists.{_∈_, any, all, added}
 use Rattle.definitions.specs.Words.{Atom, Literal, sameAtom, goalAtoms}
 use Rattle.definitions.specs.Instances.{Instance, Task}
 use Rattle.definitions.specs.Search.{Trail, isTrue, isFalse, Logged, clauseOf, State, start, notFalse, actOn, isGoal, nextAct, nextInstance, loggedOf, enter, enterTaken, setUnit, logInstance, decide, afterConflict, Outcome, done, hasRoom, run, enough, searchTask}
@@ -106,9 +106,9 @@ spent-only-when k budget s e =
 
 -- at most one atom enters
 enter-length : (table : List Atom) (a : Atom) → length (enter table a) ≤ suc (length table)
-unfolding enter
+unfolding enter added
 enter-length table a =
-    by-test (any (sameAtom a) table) (λ e. rw (e, enter) (omega arith)) (λ e. rw (e, enter) (omega (arith, length-append table (a ∷ []))))
+    by-test (any (sameAtom a) table) (λ e. rw (e, added) (omega arith)) (λ e. rw (e, added) (omega (arith, length-append table (a ∷ []))))
 
 enterTaken-length : (table : List Atom) (o : Option Literal) → length (enterTaken table o) ≤ suc (length table)
 unfolding enterTaken

@@ -1,17 +1,17 @@
--- The different elements of a list, each where it stands first. Assumes nothing.
+-- The different elements of a list, each where it stands first, and one element more. Assumes nothing.
 use mathlib.Core.Path.{_≡_, refl, sym, ap, _∙_}
 use Prim.Native.Nat.{_≤_}
 use mathlib.Core.Logic.{inl, inr}
-use mathlib.Core.Bool.{Bool, true, false, not}
+use mathlib.Core.Bool.{Bool, true, not}
 use mathlib.Core.List.{List, [], _∷_, _++_, map, append-nil, List·Memᴰ·head, List·Memᴰ·tail, List·Memᴰ·cases-cons, List·Memᴰ·not-nil, Memᴰ·cast}
 use native.Mathlib.Omega.{arith}
 use lib.ListN.{length, take, length-append}
 use lib.Seq.{take-at, take-all}
 use borrow.Author.Tests.{not-true}
-use Rattle.definitions.specs.Lists.{_∈_, any, all, filter, distinct}
+use Rattle.definitions.specs.Lists.{_∈_, any, all, filter, distinct, added}
 use Rattle.theory.specs.Tests.{by-test, true-and-false}
 use Rattle.theory.specs.ListLaws.{any-some, any-of, any-none, all-each, all-of, filter-of, filter-in, filter-length, filter-append, filter-all, Different}
-use Rattle.theory.specs.PlaceLaws.{filter-different, filter-alike}
+use Rattle.theory.specs.PlaceLaws.{filter-different, filter-alike, filter-map}
 
 -- ── its elements ──
 
@@ -48,7 +48,7 @@ module _ {A : Type 0} (same : A → A → Bool) where
         (λ d. true-and-false (all-of p xs (λ x m. all-each p (distinct same xs) d x (distinct-of xs x m))) e)
         (λ d. d ∙ sym e))
 
--- they differ, and are all where all differ
+-- they differ; where all differ, they are the list itself
 pub distinct-different : {A : Type 0} (same : A → A → Bool) → ((x : A) → same x x ≡ true) → (xs : List A) → Different (distinct same xs)
 unfolding distinct
 distinct-different same itself [] = tt
@@ -68,11 +68,6 @@ pub distinct-twice : {A : Type 0} (same : A → A → Bool) → ((x y : A) → s
     → distinct same (distinct same xs) ≡ distinct same xs
 distinct-twice same eq itself xs = distinct-all same eq (distinct same xs) (distinct-different same itself xs)
 
-filter-map : {A B : Type 0} (p : B → Bool) (f : A → B) (xs : List A) → filter p (map f xs) ≡ map f (filter (λ x. p (f x)) xs)
-unfolding filter
-filter-map p f [] = refl
-filter-map p f (x ∷ xs) = let rest = filter-map p f xs in by-test (p (f x)) (λ e. cc) (λ e. cc)
-
 -- what is made of the different elements, where different elements make different things
 pub distinct-map : {A B : Type 0} (f : A → B) (same : A → A → Bool) (same′ : B → B → Bool) (xs : List A)
     → ((x y : A) → x ∈ xs → y ∈ xs → same′ (f x) (f y) ≡ same x y) → distinct same′ (map f xs) ≡ map f (distinct same xs)
@@ -89,10 +84,6 @@ distinct-map f same same′ (x ∷ xs) h =
     )
 
 -- ── one element more ──
-
--- behind the others, unless it is one of them
-unfoldable pub added : {A : Type 0} → (A → A → Bool) → List A → A → List A
-added same xs x = elim (any (same x) xs) [ true ↦ xs | false ↦ xs ++ (x ∷ []) ]
 
 module _ {A : Type 0} (same : A → A → Bool) (xs : List A) (x : A) where
   -- the others stand first

@@ -1,5 +1,6 @@
 pub mod Tests
 pub mod ListLaws
+pub mod PlaceLaws
 pub mod DistinctLaws
 pub mod WordLaws
 pub mod InstanceLaws
@@ -28,7 +29,6 @@ pub mod Theorems
 pub mod CallLaws
 pub mod Demand3
 pub mod Quiet
-pub mod PlaceLaws
 pub mod CnfText
 pub mod CnfReads
 pub mod CnfRefusals

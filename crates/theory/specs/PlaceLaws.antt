@@ -166,6 +166,11 @@ filter-alike f g (x ∷ xs) h =
     let rest = filter-alike f g xs (λ y m. h y (List·Memᴰ·tail m)) in
     by-test (g x) (λ e. cc) (λ e. cc)
 
+pub filter-map : {A B : Type 0} (p : B → Bool) (f : A → B) (xs : List A) → filter p (map f xs) ≡ map f (filter (λ x. p (f x)) xs)
+unfolding filter
+filter-map p f [] = refl
+filter-map p f (x ∷ xs) = let rest = filter-map p f xs in by-test (p (f x)) (λ e. cc) (λ e. cc)
+
 module _ {A : Type 0} (passes : A → Bool) where
   pub find-append-some : (xs ys : List A) (x : A) → find passes xs ≡ some x → find passes (xs ++ ys) ≡ some x
   unfolding find

@@ -5,7 +5,7 @@ use mathlib.Core.Bool.{Bool, true, false, not, _&&_, _||_}
 use mathlib.Core.Option.{Option, none, some}
 use mathlib.Core.List.{List, [], _∷_, _++_, map, List·Memᴰ·head, List·Memᴰ·tail, List·Memᴰ·cases-cons, List·Memᴰ·append-cases, List·Memᴰ·eq-of-singleton, List·Memᴰ·not-nil, Memᴰ·append-left, Memᴰ·append-right, Memᴰ·cast, Memᴰ·map, Memᴰ·of-map}
 use borrow.Author.Tests.{not-true}
-use Rattle.definitions.specs.Lists.{_∈_, isEmpty, any, all, filter, distinct, listOf, firstSome}
+use Rattle.definitions.specs.Lists.{_∈_, isEmpty, any, all, filter, distinct, added, listOf, firstSome}
 use Rattle.definitions.specs.Words.{Atom, Literal, negate, plain, sameAtom, sameLiteral, Clause, goalAtoms}
 use Rattle.definitions.specs.Instances.{Instance, Task}
 use Rattle.definitions.specs.Search.{Why, decided, flipped, forced, Entry, Trail, isTrue, isFalse, isUnset, Logged, clauseOf, State, Act, conflict, force, notFalse, actOn, isGoal, goalAct, loggedAct, nextAct, fires, nextInstance, loggedOf, enter, enterTaken, nextGoal}
@@ -115,9 +115,12 @@ pub clause-once : (g : Logged) → distinct sameLiteral (clauseOf g) ≡ clauseO
 unfolding clauseOf
 clause-once g = distinct-twice sameLiteral sameLiteral-eq sameLiteral-refl (map negate (g .instance .heads) ++ listOf (g .taken))
 
--- and whether all heads are true can be asked of the different ones
-pub heads-once : (t : Trail) (i : Instance) → all (isTrue t) (distinct sameLiteral (i .heads)) ≡ all (isTrue t) (i .heads)
-heads-once t i = all-distinct sameLiteral sameLiteral-eq (isTrue t) (i .heads)
+-- and whether it may set a created atom can be asked of the different heads
+pub heads-once : (k : Task) (t : Trail) (g : Logged)
+    → loggedAct k t g ≡ actOn t (λ (l : Literal). isGoal k l || all (isTrue t) (distinct sameLiteral (g .instance .heads))) (notFalse t (clauseOf g))
+unfolding loggedAct
+heads-once k t g =
+    ap (λ (b : Bool). actOn t (λ (l : Literal). isGoal k l || b) (notFalse t (clauseOf g))) (sym (all-distinct sameLiteral sameLiteral-eq (isTrue t) (g .instance .heads)))
 
 -- a literal of it is a negated head, or the one taken
 pub clause-cases : (g : Logged) (l : Literal) → l ∈ clauseOf g → ((h : Literal) × (h ∈ g .instance .heads) × (l ≡ negate h)) ⊎ (g .taken ≡ some l)
@@ -323,15 +326,15 @@ module _ (k : Task) where
 -- ── the table ──
 
 pub enter-old : (table : List Atom) (x a : Atom) → a ∈ table → a ∈ enter table x
-unfolding enter
-enter-old table x a m = by-test (any (sameAtom x) table) (λ e. rw (e, enter) m) (λ e. rw (e, enter) (Memᴰ·append-left (x ∷ []) m))
+unfolding enter added
+enter-old table x a m = by-test (any (sameAtom x) table) (λ e. rw (e, added) m) (λ e. rw (e, added) (Memᴰ·append-left (x ∷ []) m))
 
 pub enter-new : (table : List Atom) (x : Atom) → x ∈ enter table x
-unfolding enter
+unfolding enter added
 enter-new table x =
     by-test (any (sameAtom x) table)
-    (λ e. let (y, m, q) = any-some (sameAtom x) table e in rw (e, enter) (Memᴰ·cast (sameAtom-eq x y q) m))
-    (λ e. rw (e, enter) (Memᴰ·append-right table (List·Memᴰ·head refl)))
+    (λ e. let (y, m, q) = any-some (sameAtom x) table e in rw (e, added) (Memᴰ·cast (sameAtom-eq x y q) m))
+    (λ e. rw (e, added) (Memᴰ·append-right table (List·Memᴰ·head refl)))
 
 pub enterTaken-old : (table : List Atom) (o : Option Literal) (a : Atom) → a ∈ table → a ∈ enterTaken table o
 unfolding enterTaken
@@ -344,12 +347,12 @@ enterTaken-new table o l e = rw (e, enterTaken) (enter-new table (l .atom))
 
 -- an atom of the table was there, or is the one that entered
 pub enterTaken-in : (table : List Atom) (o : Option Literal) (a : Atom) → a ∈ enterTaken table o → (a ∈ table) ⊎ ((l : Literal) × (o ≡ some l) × (a ≡ l .atom))
-unfolding enterTaken enter
+unfolding enterTaken enter added
 enterTaken-in table none a m = inl m
 enterTaken-in table (some l) a m =
     by-test (any (sameAtom (l .atom)) table)
-    (λ e. inl (rw (e, enter) at m))
-    (λ e. elim (List·Memᴰ·append-cases table (rw (e, enter) at m)) [
+    (λ e. inl (rw (e, added) at m))
+    (λ e. elim (List·Memᴰ·append-cases table (rw (e, added) at m)) [
       | inl n ↦ inl n
       | inr n ↦ inr (l, refl, List·Memᴰ·eq-of-singleton n)
     ])

@@ -1,7 +1,7 @@
 -- The table: new atoms enter at its end, none stands twice, the goal atoms enter clause by clause, and each atom has a position of its
 -- own, which no atom that enters behind changes. Assumes nothing.
 use Prim.Native.Nat.{ℕ, zero, suc, _<_}
-use mathlib.Core.Path.{_≡_, refl, sym, _∙_, ap}
+use mathlib.Core.Path.{_≡_, sym, _∙_, ap}
 use mathlib.Core.Logic.{inl, inr}
 use mathlib.Core.Bool.{true, false}
 use mathlib.Core.Option.{some}
@@ -12,7 +12,7 @@ use Rattle.definitions.specs.Lists.{_∈_, distinct, joined}
 use Rattle.definitions.specs.Words.{Atom, Literal, sameAtom, Clause, goalAtoms, position}
 use Rattle.definitions.specs.Search.{enter}
 use Rattle.theory.specs.Tests.{by-test, true-and-false, none≢some, some-injective}
-use Rattle.theory.specs.DistinctLaws.{distinct-different, added, by-member, added-known, added-new, distinct-added}
+use Rattle.theory.specs.DistinctLaws.{distinct-different, by-member, added-known, added-new, distinct-added}
 use Rattle.theory.specs.ListLaws.{joined-append, Different, different-more, each-nil, each-cons, each-append}
 use Rattle.theory.specs.PlaceLaws.{getElem-in}
 use Rattle.theory.specs.WordLaws.{sameAtom-eq, sameAtom-refl}
@@ -25,15 +25,13 @@ enterAll table (a ∷ more) = enterAll (enter table a) more
 pub by-known : (a : Atom) (table : List Atom) {C : Type 0} → (a ∈ table → C) → ((a ∈ table → ⊥) → C) → C
 by-known = by-member sameAtom sameAtom-eq sameAtom-refl
 
-enter-added : (table : List Atom) (a : Atom) → enter table a ≡ added sameAtom table a
-unfolding enter added
-enter-added table a = refl
-
 pub enter-known : (table : List Atom) (a : Atom) → a ∈ table → enter table a ≡ table
-enter-known table a m = enter-added table a ∙ added-known sameAtom sameAtom-eq sameAtom-refl table a m
+unfolding enter
+enter-known = added-known sameAtom sameAtom-eq sameAtom-refl
 
 pub enter-fresh : (table : List Atom) (a : Atom) → (a ∈ table → ⊥) → enter table a ≡ table ++ (a ∷ [])
-enter-fresh table a out = enter-added table a ∙ added-new sameAtom sameAtom-eq sameAtom-refl table a out
+unfolding enter
+enter-fresh = added-new sameAtom sameAtom-eq sameAtom-refl
 
 pub enter-different : (table : List Atom) (a : Atom) → Different table → Different (enter table a)
 enter-different table a d =
@@ -46,12 +44,12 @@ enter-each P gs a each h =
     (λ out. rw (enter-fresh gs a out) (each-append P gs each (each-cons P h (each-nil P))))
 
 distinct-enter-all : (xs ys : List Atom) → distinct sameAtom (xs ++ ys) ≡ enterAll (distinct sameAtom xs) ys
-unfolding enterAll
+unfolding enterAll enter
 distinct-enter-all xs [] = rw (append-nil xs)
 distinct-enter-all xs (y ∷ ys) =
     ap (distinct sameAtom) (sym (append-assoc xs (y ∷ []) ys))
     ∙ distinct-enter-all (xs ++ (y ∷ [])) ys
-    ∙ ap (λ t. enterAll t ys) (distinct-added sameAtom sameAtom-eq sameAtom-refl xs y ∙ sym (enter-added (distinct sameAtom xs) y))
+    ∙ ap (λ t. enterAll t ys) (distinct-added sameAtom sameAtom-eq sameAtom-refl xs y)
 
 pub joined-more : {A B : Type 0} (f : A → List B) (xs : List A) (x : A) → joined f (xs ++ (x ∷ [])) ≡ joined f xs ++ f x
 unfolding joined
