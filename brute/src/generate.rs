@@ -101,6 +101,13 @@ impl Style {
         rows.extend(self.arities.iter().map(|&arity| vec![2, arity as i32]));
         rows
     }
+
+    /// From `least` to `most` atoms with these symbols.
+    fn atoms(&self, random: &mut Random, least: usize, most: usize, symbols: &[usize]) -> Vec<Row> {
+        (0..random.between(least, most))
+            .map(|_| random_atom(random, self.constants, &self.arities, symbols))
+            .collect()
+    }
 }
 
 /// A style in which every symbol may stand everywhere.
@@ -316,9 +323,7 @@ fn general(random: &mut Random) -> Vec<Row> {
     for _ in 0..random.below(7) {
         rows.push(random_rule(random, &style));
     }
-    let atoms: Vec<Row> = (0..random.between(1, 8))
-        .map(|_| random_atom(random, constants, &style.arities, &style.heads))
-        .collect();
+    let atoms = style.atoms(random, 1, 8, &style.heads);
     let units = *random.pick(&[5, 30, 60]);
     let negated_share = *random.pick(&[5, 25, 50]);
     for _ in 0..random.below(11) {
@@ -341,9 +346,7 @@ fn wide(random: &mut Random) -> Vec<Row> {
     for _ in 0..random.between(2, 8) {
         rows.push(random_rule(random, &style));
     }
-    let atoms: Vec<Row> = (0..random.between(10, 40))
-        .map(|_| random_atom(random, constants, &style.arities, &style.heads))
-        .collect();
+    let atoms = style.atoms(random, 10, 40, &style.heads);
     let units = *random.pick(&[10, 50, 80]);
     for _ in 0..random.between(8, 40) {
         rows.push(random_clause(random, &atoms, units, 15));
@@ -439,13 +442,16 @@ fn derived(random: &mut Random) -> Vec<Row> {
     for _ in 0..random.between(3, 9) {
         rows.push(random_rule(random, &style));
     }
-    let atoms: Vec<Row> = (0..random.between(2, 6))
-        .map(|_| random_atom(random, constants, &style.arities, &goal))
-        .collect();
-    for _ in 0..random.between(1, 7) {
-        rows.push(random_clause(random, &atoms, 25, 35));
-    }
+    rows.extend(few_clauses(random, &style, &goal));
     rows
+}
+
+/// One to seven clauses over two to six atoms with these symbols.
+fn few_clauses(random: &mut Random, style: &Style, symbols: &[usize]) -> Vec<Row> {
+    let atoms = style.atoms(random, 2, 6, symbols);
+    (0..random.between(1, 7))
+        .map(|_| random_clause(random, &atoms, 25, 35))
+        .collect()
 }
 
 /// Rules of two and three heads with arguments enough for chains, over so many facts that they fire.
@@ -462,9 +468,7 @@ fn joins(random: &mut Random) -> Vec<Row> {
         let head_count = *random.pick(&[2, 3, 3]);
         rows.push(rule_with(random, &style, head_count));
     }
-    let atoms: Vec<Row> = (0..random.between(4, 20))
-        .map(|_| random_atom(random, constants, &style.arities, &style.heads))
-        .collect();
+    let atoms = style.atoms(random, 4, 20, &style.heads);
     rows.extend(atoms.iter().map(|atom| clause(std::slice::from_ref(atom))));
     for _ in 0..random.below(4) {
         rows.push(random_clause(random, &atoms, 10, 15));
@@ -493,12 +497,7 @@ fn heads_alike(random: &mut Random) -> Vec<Row> {
         let head_count = *random.pick(&[1, 2, 2, 3, 3]);
         rows.push(rule_with(random, &style, head_count));
     }
-    let atoms: Vec<Row> = (0..random.between(2, 5))
-        .map(|_| random_atom(random, constants, &style.arities, &goal))
-        .collect();
-    for _ in 0..random.between(1, 6) {
-        rows.push(random_clause(random, &atoms, 25, 25));
-    }
+    rows.extend(few_clauses(random, &style, &goal));
     rows
 }
 
