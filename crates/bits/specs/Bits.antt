@@ -1,16 +1,17 @@
--- The bits of a word: which of them are set, the set ones in rising order, and what `&`, `|`, the difference and a power of two do to
--- them. Assumes nothing.
+-- The bits of a word: which of them are set, the set ones in rising order, and what `&`, `|`, the difference, the complement, a power of two
+-- and a bit that is replaced do to them. Assumes nothing.
 use Prim.Native.Nat.{ℕ, zero, suc, _+_, _-_, _*_, _/_, _%_, _^_, _≤_, _<_, min, max}
 use mathlib.Core.Path.{_≡_, refl, sym, ap, _∙_}
 use mathlib.Core.Logic.{⊎-elim}
-use mathlib.Core.Bool.{Bool, true, false, not, _&&_, _||_}
+use mathlib.Core.Bool.{Bool, true, false, not, _&&_, _||_, and-true, and-false, or-false}
 use mathlib.Core.List.{List, [], _∷_}
-use native.Mathlib.Nat.{pow-suc, add-zero, one-mul, eq-zero-or-pos, div-one, div-div-eq-div-mul, mul-comm}
+use native.Mathlib.Nat.{pow-suc, add-zero, one-mul, zero-mul, eq-zero-or-pos, div-one, div-div-eq-div-mul, mul-comm}
 use native.Mathlib.Omega.{arith}
-use lib.Dec.{eqb, lit<}
+use lib.Dec.{eqb, eqb·zero-suc, eqb·suc-zero, eqb·suc-suc, lit<}
 use lib.Pow.{pow-pos, shl-exact}
 use lib.Bits.{bitAnd, bitOr, and-step, or-step, and-le-l}
 use lib.Count.{trailingZeros}
+use borrow.Author.Tests.{eqb-true, eqb-false, eq-eqb, ne-eqb}
 
 -- the word has a bit
 unfoldable pub has : ℕ → ℕ → Bool
@@ -25,7 +26,7 @@ bitsFrom i (suc k) m = elim (eqb (m % 2) 1) [ true ↦ i ∷ bitsFrom (suc i) k 
 unfoldable pub bitsOf : ℕ → List ℕ
 bitsOf m = bitsFrom 0 32 m
 
-by-bit : (w : ℕ) {C : Type 0} → (w % 2 ≡ 0 → C) → (w % 2 ≡ 1 → C) → C
+pub by-bit : (w : ℕ) {C : Type 0} → (w % 2 ≡ 0 → C) → (w % 2 ≡ 1 → C) → C
 by-bit w z o = ⊎-elim (λ e. z e) (λ p. o (omega arith)) (eq-zero-or-pos (w % 2))
 
 -- ── the lowest bit is taken off ──
@@ -44,11 +45,12 @@ module _ (i k m : ℕ) where
   unfolding bitsFrom
   bits-even e = rw (e, bitsFrom)
 
-  zeros-odd : m % 2 ≡ 1 → trailingZeros (suc k) m ≡ 0
+module _ (k m : ℕ) where
+  pub zeros-odd : m % 2 ≡ 1 → trailingZeros (suc k) m ≡ 0
   unfolding trailingZeros
   zeros-odd e = rw e
 
-  zeros-even : m % 2 ≡ 0 → trailingZeros (suc k) m ≡ suc (trailingZeros k (m / 2))
+  pub zeros-even : m % 2 ≡ 0 → trailingZeros (suc k) m ≡ suc (trailingZeros k (m / 2))
   unfolding trailingZeros
   zeros-even e = rw e
 
@@ -66,12 +68,12 @@ lowest i (suc k) m p l =
     let half : (m - 2 ^ suc t) / 2 ≡ m / 2 - 2 ^ t = omega arith in
     let next : bitsFrom i (suc k) (m - 2 ^ suc t) ≡ bitsFrom (suc i) k (m / 2 - 2 ^ t) = bits-even i k (m - 2 ^ suc t) even ∙ rw half in
     let same : suc i + t ≡ i + suc t = omega arith in
-    rw (zeros-even i k m e) (omega arith, omega arith, bits-even i k m e ∙ c ∙ rw (same, next)))
+    rw (zeros-even k m e) (omega arith, omega arith, bits-even i k m e ∙ c ∙ rw (same, next)))
     (λ e.
     let even : (m - 1) % 2 ≡ 0 = omega arith in
     let half : (m - 1) / 2 ≡ m / 2 = omega arith in
     let next : bitsFrom i (suc k) (m - 1) ≡ bitsFrom (suc i) k (m / 2) = bits-even i k (m - 1) even ∙ rw half in
-    rw (zeros-odd i k m e) (omega arith, omega arith, bits-odd i k m e ∙ rw (add-zero i, next)))
+    rw (zeros-odd k m e) (omega arith, omega arith, bits-odd i k m e ∙ rw (add-zero i, next)))
 
 -- ── `&`, `|` and the difference, bit by bit ──
 
@@ -133,22 +135,18 @@ has-high zero (suc n) m l h = absurd (omega arith)
 has-high (suc c) (suc n) m l h = let e = pow-suc 2 n in has-high c n (m / 2) (omega arith) (omega arith)
 
 -- a power of two has its own bit and no other
-pub has-one : (c : ℕ) → has c (2 ^ c) ≡ true
+pub has-power : (c d : ℕ) → has c (2 ^ d) ≡ eqb d c
 unfolding has
-has-one zero = refl
-has-one (suc c) = let e = pow-suc 2 c in let half : 2 ^ suc c / 2 ≡ 2 ^ c = omega arith in rw half (has-one c)
+has-power zero zero = refl
+has-power zero (suc d) = let e = pow-suc 2 d in let even : 2 ^ suc d % 2 ≡ 0 = omega arith in rw even (sym (eqb·suc-zero d))
+has-power (suc c) zero = has-zero c ∙ sym (eqb·zero-suc c)
+has-power (suc c) (suc d) = let e = pow-suc 2 d in let half : 2 ^ suc d / 2 ≡ 2 ^ d = omega arith in rw half (has-power c d ∙ sym (eqb·suc-suc d c))
+
+pub has-one : (c : ℕ) → has c (2 ^ c) ≡ true
+has-one c = has-power c c ∙ eq-eqb c c refl
 
 pub has-other : (c d : ℕ) → has c (2 ^ d) ≡ true → c ≡ d
-unfolding has
-has-other zero zero h = refl
-has-other zero (suc d) h =
-    let e = pow-suc 2 d in
-    let even : 2 ^ suc d % 2 ≡ 0 = omega arith in
-    let no : _≡_ {A = Bool} false true = sym (rw even) ∙ h in
-    let z : _≡_ {A = ℕ} 0 1 = cc in
-    absurd (omega arith)
-has-other (suc c) zero h = let z : _≡_ {A = ℕ} 0 1 = cc (has-zero c) in absurd (omega arith)
-has-other (suc c) (suc d) h = let e = pow-suc 2 d in let half : 2 ^ suc d / 2 ≡ 2 ^ d = omega arith in ap suc (has-other c d (rw half at h))
+has-other c d h = sym (eqb-true d c (sym (has-power c d) ∙ h))
 
 -- a word of ones has all bits below its length
 pub has-ones : (c n : ℕ) → c < n → has c (2 ^ n - 1) ≡ true
@@ -156,6 +154,66 @@ unfolding has
 has-ones c zero l = absurd (omega arith)
 has-ones zero (suc n) l = let e = pow-suc 2 n in let p = pow-pos n in let odd : (2 ^ suc n - 1) % 2 ≡ 1 = omega arith in rw odd
 has-ones (suc c) (suc n) l = let e = pow-suc 2 n in let p = pow-pos n in let half : (2 ^ suc n - 1) / 2 ≡ 2 ^ n - 1 = omega arith in rw half (has-ones c n (omega arith))
+
+-- ── the complement ──
+
+pub has-complement : (c n m : ℕ) → c < n → m < 2 ^ n → has c (2 ^ n - 1 - m) ≡ not (has c m)
+unfolding has
+has-complement c zero m l h = absurd (omega arith)
+has-complement zero (suc n) m l h =
+    let e = pow-suc 2 n in
+    let odd : (2 ^ suc n - 1 - m) % 2 ≡ 1 - m % 2 = omega arith in
+    rw odd (by-bit m (λ p. rw p) (λ p. rw p))
+has-complement (suc c) (suc n) m l h =
+    let e = pow-suc 2 n in
+    let half : (2 ^ suc n - 1 - m) / 2 ≡ 2 ^ n - 1 - m / 2 = omega arith in
+    rw half (has-complement c n (m / 2) (omega arith) (omega arith))
+
+-- ── a bit is replaced ──
+
+-- bit c of the word is b, whatever it was
+unfoldable pub replaceBit : ℕ → ℕ → ℕ → ℕ
+replaceBit c b m = bitOr (m - bitAnd m (2 ^ c)) (b * 2 ^ c)
+
+has-shifted : (d c b : ℕ) → b < 2 → has d (b * 2 ^ c) ≡ (eqb b 1 && eqb c d)
+has-shifted d c zero l = rw (zero-mul (2 ^ c)) (has-zero d)
+has-shifted d c (suc zero) l = rw (one-mul (2 ^ c)) (has-power d c)
+has-shifted d c (suc (suc b)) l = absurd (omega arith)
+
+module _ (c b m : ℕ) (small : b < 2) where
+  replaced-bits : (d : ℕ) → has d (replaceBit c b m) ≡ ((has d m && not (eqb c d)) || (eqb b 1 && eqb c d))
+  unfolding replaceBit
+  replaced-bits d = has-or d (m - bitAnd m (2 ^ c)) (b * 2 ^ c) ∙ rw (has-less d m (2 ^ c), has-shifted d c b small, has-power d c)
+
+  pub replaced-here : has c (replaceBit c b m) ≡ eqb b 1
+  replaced-here = replaced-bits c ∙ rw (eq-eqb c c refl, and-false (has c m), and-true (eqb b 1))
+
+  pub replaced-elsewhere : (d : ℕ) → (c ≡ d → ⊥) → has d (replaceBit c b m) ≡ has d m
+  replaced-elsewhere d other = replaced-bits d ∙ rw (ne-eqb c d other, and-true (has d m), and-false (eqb b 1)) (or-false (has d m))
+
+-- ── words with the same bits ──
+
+same-below : (n a b : ℕ) → a < 2 ^ n → b < 2 ^ n → ((c : ℕ) → has c a ≡ has c b) → a ≡ b
+unfolding has
+same-below zero a b l m h = omega arith
+same-below (suc n) a b l m h =
+    let e = pow-suc 2 n in
+    let r = same-below n (a / 2) (b / 2) (omega arith) (omega arith) (λ c. h (suc c)) in
+    let p = same-parity (h zero) in
+    omega arith
+  where
+    same-parity : eqb (a % 2) 1 ≡ eqb (b % 2) 1 → a % 2 ≡ b % 2
+    same-parity s =
+        by-bit a
+        (λ p. by-bit b (λ q. p ∙ sym q) (λ q. absurd (eqb-false (b % 2) 1 (sym s ∙ rw p) q)))
+        (λ p. by-bit b (λ q. absurd (eqb-false (a % 2) 1 (s ∙ rw q) p)) (λ q. p ∙ sym q))
+
+pub same-bits : (a b : ℕ) → ((c : ℕ) → has c a ≡ has c b) → a ≡ b
+same-bits a b h = same-below (a + b) a b (below-power (a + b) a (omega arith)) (below-power (a + b) b (omega arith)) h
+  where
+    below-power : (n x : ℕ) → x ≤ n → x < 2 ^ n
+    below-power zero x l = omega arith
+    below-power (suc n) x l = let e = pow-suc 2 n in let p = pow-pos n in let i = below-power n (x - 1) (omega arith) in omega arith
 
 -- ── in the code's terms ──
 
@@ -167,6 +225,9 @@ has-shift (suc c) m =
     has-shift c (m / 2)
     ∙ ap (λ (x : ℕ). eqb (x % 2) 1) (div-div-eq-div-mul m 2 (2 ^ c) ∙ ap (λ (x : ℕ). m / x) (mul-comm 2 (2 ^ c) ∙ sym (pow-suc 2 c)))
 
--- one shifted
-pub one-bit : (c : ℕ) → c < 32 → (1 * 2 ^ c) % 2 ^ 32 ≡ 2 ^ c
-one-bit c l = shl-exact {a = 1} 1 c 32 (lit< tt) (omega arith) ∙ one-mul (2 ^ c)
+-- a bit shifted, in a word of any width
+pub bit-shifted : (width b c : ℕ) → b < 2 → c < width → (b * 2 ^ c) % 2 ^ width ≡ b * 2 ^ c
+bit-shifted width b c l h = shl-exact {a = b} 1 c width (omega arith) (omega arith)
+
+pub one-shifted : (width c : ℕ) → c < width → (1 * 2 ^ c) % 2 ^ width ≡ 2 ^ c
+one-shifted width c l = bit-shifted width 1 c (lit< tt) l ∙ one-mul (2 ^ c)

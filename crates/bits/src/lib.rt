@@ -1,4 +1,6 @@
-// Words of 32 bits as sets of small numbers.
+// Words as sets of small numbers, of 32 bits here.
+pub mod long; // long.rt: words of 64 bits
+
 ghost use mathlib.Core.Path.{_≡_};
 ghost use Prim.Native.Nat.{_-_, _^_, _<_};
 ghost use lib.Bits.{bitOr};

@@ -1,6 +1,6 @@
 -- `with_bit` meets its contract: one shifted is a power of two. Assumes nothing.
 use borrow.Author.Needs.{needs}
-use Rattle.bits.specs.Bits.{one-bit}
+use Rattle.bits.specs.Bits.{one-shifted}
 use Rattle.bits.proofs.with_bit.Statement.{statement}
 use Rattle.bits.proofs.with_bit.Tie as tie
 
@@ -11,7 +11,7 @@ shl-result : tie.Need-shl-result
 shl-result c = search needs
 
 returns : tie.Need-returns
-returns c = rw (one-bit (c .args .c) (c .pre))
+returns c = rw (one-shifted 32 (c .args .c) (c .pre))
 
 pub with-bit-spec : {M : Type 1} → statement M
 with-bit-spec = tie.close (tie.spec cast-result shl-result returns)

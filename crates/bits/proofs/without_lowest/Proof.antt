@@ -4,14 +4,14 @@ use mathlib.Core.Path.{_≡_, ap}
 use native.Mathlib.Omega.{arith}
 use lib.Count.{trailingZeros}
 use borrow.Author.Needs.{needs}
-use Rattle.bits.specs.Bits.{lowest, one-bit}
+use Rattle.bits.specs.Bits.{lowest, one-shifted}
 use Rattle.bits.proofs.without_lowest.Statement.{statement}
 use Rattle.bits.proofs.without_lowest.Tie as tie
 
 shifted : (m c : ℕ) → 0 < m → m < 2 ^ 32 → c ≡ trailingZeros 32 m → (c < 32) × ((1 * 2 ^ c) % 2 ^ 32 ≡ 2 ^ c) × ((1 * 2 ^ c) % 2 ^ 32 ≤ m)
 shifted m c p l e =
     let (a, b, _) = lowest 0 32 m p l in
-    let exact : (1 * 2 ^ c) % 2 ^ 32 ≡ 2 ^ c = one-bit c (omega arith) in
+    let exact : (1 * 2 ^ c) % 2 ^ 32 ≡ 2 ^ c = one-shifted 32 c (omega arith) in
     (omega arith, exact, rw (exact, e) a)
 
 cast-result : tie.Need-cast-result
