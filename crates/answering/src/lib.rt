@@ -133,7 +133,7 @@ pub fn answered(sheet: &[u8], budget: u32, room: &mut [u8], cnf: &mut [u8], want
     let mut literals = [0u16; LITERALS];
     let mut numbers = [0u8; LOGGED];
     let mut table = [0u32; ATOMS];
-    let mut values = [values::UNSET_STATE; ATOMS];
+    let mut values = [0u64; values::STATE_WORDS];
     match pipe::search_sheet(
         sheet,
         budget,

@@ -1,19 +1,20 @@
 -- Values in the code's terms: a sign and its product with a state, as the machine's bits give them, and what each test of a value comes to.
 -- Assumes nothing.
-use Prim.Native.Nat.{ℕ, zero, suc, _*_, _/_, _%_, _<_}
+use Prim.Native.Nat.{ℕ, zero, suc, _-_, _/_, _%_, _^_, _<_}
 use mathlib.Core.Path.{_≡_, refl, sym, ap, _∙_, subst}
+use mathlib.Core.Bool.{Bool, true, false, not}
 use native.Mathlib.Omega.{arith}
 use lib.Dec.{eqb}
 use lib.IntN.{ℤ, pos, negsuc, negℤ, _-ℤ_, _*ℤ_}
-use lib.ListN.{set}
 use mir.Syntax.{w8, w32}
 use mir.Val.{SFits, toZ, ofZ}
 use mir.Facts.{sfits-lit, sfits-widen, toZ-ofZ}
-use Rattle.definitions.specs.LiteralTest.{Value, unsetValue, trueValue, falseValue}
+use Rattle.bits.specs.Bits.{has, has-shift}
+use Rattle.definitions.specs.LiteralTest.{Value, trueValue, falseValue}
 use Rattle.theory.specs.Tests.{by-test}
 use Rattle.theory.specs.TruthLaws.{one-times, minus-one-times}
-use Rattle.encoding.specs.Values.{Values, isUnsetValue, isTrueValue, isFalseValue, valueAt, unsetAt, wordSign, literalValue, trueWord, falseWord, assigned, unassigned}
-use Rattle.encoding.specs.ValueLaws.{bits-unset, bits-true, bits-false, even-sign}
+use Rattle.encoding.specs.Values.{Values, setPlace, truePlace, bitIn, setBit, trueBit, putState, stateOf, isTrueValue, isFalseValue, valueAt, unsetAt, wordSign, literalValue, trueWord, falseWord, assigned, unassigned}
+use Rattle.encoding.specs.ValueLaws.{bits-true, bits-false}
 
 -- ── a sign ──
 
@@ -48,23 +49,38 @@ by-sign w P a b = by-test (eqb (w % 2) 0) (λ e. rw (e, wordSign) a) (λ e. rw (
 sign-kept : (w : ℕ) → toZ w32 (ofZ w32 (wordSign w)) ≡ wordSign w
 sign-kept w = by-sign w (λ s. toZ w32 (ofZ w32 s) ≡ s) refl refl
 
--- a sign as a state
-module _ (w : ℕ) {s : ℤ} (its : s ≡ wordSign w) where
-  pub sign-narrow : SFits w8 (toZ w32 (ofZ w32 s))
-  sign-narrow = rw (its, sign-kept w) (by-sign w (SFits w8) (sfits-lit tt) (sfits-lit tt))
-
-  pub sign-stored : toZ w8 (ofZ w8 (toZ w32 (ofZ w32 s))) ≡ wordSign w
-  sign-stored = rw (its, sign-kept w) (by-sign w (λ x. toZ w8 (ofZ w8 x) ≡ x) refl refl)
-
 -- ── a state ──
 
--- read and widened
-module _ (z : ℤ) (fits : SFits w8 z) where
-  pub state-fits : SFits w32 (toZ w8 (ofZ w8 z))
-  state-fits = rw (toZ-ofZ fits) (sfits-widen {w = w8} tt fits)
+-- by both bits, as it is computed
+abbrev lessBit : ℕ → ℕ → ℤ
+lessBit s t = toZ w32 (ofZ w32 (twice t)) -ℤ toZ w32 s
 
-  pub state-is : toZ w32 (ofZ w32 (toZ w8 (ofZ w8 z))) ≡ z
-  state-is = toZ-ofZ state-fits ∙ toZ-ofZ fits
+pub state-computed : (s t : ℕ) → s < 2 → t < 2 → SFits w32 (lessBit s t) × (toZ w32 (ofZ w32 (lessBit s t)) ≡ stateOf (eqb s 1) (eqb t 1))
+unfolding stateOf
+state-computed zero zero k l = (sfits-lit tt, refl)
+state-computed zero (suc zero) k l = (sfits-lit tt, refl)
+state-computed (suc zero) zero k l = (sfits-lit tt, refl)
+state-computed (suc zero) (suc zero) k l = (sfits-lit tt, refl)
+state-computed zero (suc (suc t)) k l = absurd (omega arith)
+state-computed (suc zero) (suc (suc t)) k l = absurd (omega arith)
+state-computed (suc (suc s)) t k l = absurd (omega arith)
+
+-- it is small, so that its product with a sign fits
+state-small : (s t : Bool) → SFits w8 (stateOf s t)
+unfolding stateOf
+state-small true true = sfits-lit tt
+state-small true false = sfits-lit tt
+state-small false true = sfits-lit tt
+state-small false false = sfits-lit tt
+
+module _ (values : Values) (at : ℕ) {z : Value} (its : z ≡ valueAt values at) where
+  pub state-fits : SFits w8 z
+  unfolding valueAt
+  state-fits = rw its (state-small (setBit values at) (trueBit values at))
+
+-- a bit by a shift
+pub bit-is : (m c : ℕ) {b : ℕ} → b ≡ m / 2 ^ c % 2 → eqb b 1 ≡ has c m
+bit-is m c its = rw its (sym (has-shift c m))
 
 -- ── a product ──
 
@@ -93,13 +109,27 @@ module _ (values : Values) (w at : ℕ) (its : at ≡ w / 2) where
   unfolding literalValue
   value-is e f = cc
 
-  pub assigned-is : {v : Value} → v ≡ wordSign w → set values at v ≡ assigned values w
+  pub assigned-is : putState values at 1 (1 - w % 2) ≡ assigned values w
   unfolding assigned
-  assigned-is e = cc
+  assigned-is = cc
 
-  pub unassigned-is : set values at unsetValue ≡ unassigned values w
+  pub unassigned-is : putState values at 0 0 ≡ unassigned values w
   unfolding unassigned
   unassigned-is = cc
+
+module _ (values : Values) (at s : ℕ) (its : eqb s 1 ≡ bitIn values (setPlace at) (at % 64)) where
+  pub state-read : (t : ℕ) → eqb t 1 ≡ bitIn values (truePlace at) (at % 64) → {v : Value} → v ≡ stateOf (eqb s 1) (eqb t 1) → v ≡ valueAt values at
+  unfolding valueAt setBit trueBit
+  state-read t e f = f ∙ rw (its, e)
+
+  pub unset-read : s < 2 → eqb s 0 ≡ unsetAt values at
+  unfolding unsetAt setBit
+  unset-read l = none s l ∙ ap not its
+    where
+      none : (b : ℕ) → b < 2 → eqb b 0 ≡ not (eqb b 1)
+      none zero k = refl
+      none (suc zero) k = refl
+      none (suc (suc b)) k = absurd (omega arith)
 
 module _ (values : Values) {v : Value} (fits : SFits w32 v) where
   pub true-is : (w : ℕ) → v ≡ literalValue values w → eqb (ofZ w32 v) (ofZ w32 trueValue) ≡ trueWord values w
@@ -109,9 +139,3 @@ module _ (values : Values) {v : Value} (fits : SFits w32 v) where
   pub false-is : (w : ℕ) → v ≡ literalValue values w → eqb (ofZ w32 v) (ofZ w32 falseValue) ≡ falseWord values w
   unfolding falseWord
   false-is w its = bits-false fits ∙ ap isFalseValue its
-
-  pub unset-is : (at : ℕ) → v ≡ literalValue values (2 * at) → eqb (ofZ w32 v) (ofZ w32 unsetValue) ≡ unsetAt values at
-  unfolding unsetAt literalValue
-  unset-is at its =
-      let half : (2 * at) / 2 ≡ at = omega arith in
-      bits-unset fits ∙ ap isUnsetValue (its ∙ rw (even-sign (2 * at) (omega arith), half) (one-times (valueAt values at)))

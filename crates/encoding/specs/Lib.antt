@@ -9,7 +9,9 @@ pub mod CodeLaws
 pub mod PositionLaws
 pub mod HoldLaws
 pub mod Values
+pub mod StateWords
 pub mod ValueLaws
 pub mod Standing
 pub mod WordTruths
 pub mod Lent
+pub mod StateTable

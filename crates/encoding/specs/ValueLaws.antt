@@ -1,12 +1,11 @@
 -- The tests of a value, a literal's sign, and the states of atoms once a literal is set or unset. Assumes nothing.
-use Prim.Native.Nat.{ℕ, _+_, _*_, _/_, _%_, _<_}
+use Prim.Native.Nat.{ℕ, _+_, _-_, _*_, _/_, _%_, _<_}
 use mathlib.Core.Path.{_≡_, refl, sym, ap, _∙_}
 use mathlib.Core.Bool.{true, false}
 use native.Mathlib.Omega.{arith}
 use lib.Dec.{eqb}
 use lib.IntN.{pos, negsuc}
-use lib.ListN.{length, length-set, length-replicate}
-use lib.Seq.{getD-set-same, getD-set-other, set-comm}
+use lib.ListN.{length, length-replicate}
 use borrow.Author.Tests.{eq-eqb, ne-eqb, eqb-true, eqb-false}
 use mir.Syntax.{w32}
 use mir.Val.{SFits, toZ, ofZ}
@@ -14,7 +13,9 @@ use mir.Facts.{sfits-lit, toZ-ofZ}
 use Rattle.definitions.specs.LiteralTest.{Value, unsetValue, trueValue, falseValue}
 use Rattle.theory.specs.Tests.{by-test}
 use Rattle.encoding.specs.ArrayLaws.{getD-repeated}
-use Rattle.encoding.specs.Values.{Values, sameValue, isUnsetValue, isTrueValue, isFalseValue, valueAt, wordSign, noValues, assigned, unassigned}
+use Rattle.bits.specs.Bits.{has-zero}
+use Rattle.encoding.specs.Values.{Values, sameValue, isTrueValue, isFalseValue, setPlace, truePlace, setBit, trueBit, stateOf, valueAt, wordSign, noValues, assigned, unassigned}
+use Rattle.encoding.specs.StateWords.{state-here, state-elsewhere, length-put, taken-either}
 
 -- ── the tests of a value, by its bits: they are what the machine compares ──
 
@@ -44,10 +45,6 @@ module _ {v : Value} (fits : SFits w32 v) where
         (λ e. e ∙ sym (same-value v u (bits-equal (eqb-true (ofZ w32 v) (ofZ w32 u) e))))
         (λ e. e ∙ sym (other-value v u (λ q. eqb-false (ofZ w32 v) (ofZ w32 u) e (ap (ofZ w32) q))))
 
-  pub bits-unset : eqb (ofZ w32 v) (ofZ w32 unsetValue) ≡ isUnsetValue v
-  unfolding isUnsetValue
-  bits-unset = bits-same unsetValue (sfits-lit tt)
-
   pub bits-true : eqb (ofZ w32 v) (ofZ w32 trueValue) ≡ isTrueValue v
   unfolding isTrueValue
   bits-true = bits-same trueValue (sfits-lit tt)
@@ -68,51 +65,50 @@ odd-sign w e = cc
 
 -- ── setting and unsetting ──
 
-module _ (values : Values) (p : ℕ) (inside : p < length values) where
+module _ (values : Values) (p : ℕ) (inside : p < 256) (size : length values ≡ 8) where
   pub assigned-even : valueAt (assigned values (2 * p)) p ≡ trueValue
-  unfolding valueAt assigned
+  unfolding assigned stateOf
   assigned-even =
       let f : (2 * p) / 2 ≡ p = omega arith in
-      rw (even-sign (2 * p) (omega arith), f) (getD-set-same values p trueValue unsetValue inside)
+      let g : 1 - (2 * p) % 2 ≡ 1 = omega arith in
+      rw (f, g) (state-here values p 1 1 (omega arith) (omega arith) inside size)
 
   pub assigned-odd : valueAt (assigned values (2 * p + 1)) p ≡ falseValue
-  unfolding valueAt assigned
+  unfolding assigned stateOf
   assigned-odd =
       let f : (2 * p + 1) / 2 ≡ p = omega arith in
-      rw (odd-sign (2 * p + 1) (omega arith), f) (getD-set-same values p falseValue unsetValue inside)
+      let g : 1 - (2 * p + 1) % 2 ≡ 0 = omega arith in
+      rw (f, g) (state-here values p 1 0 (omega arith) (omega arith) inside size)
 
   pub unassigned-here : (w : ℕ) → w / 2 ≡ p → valueAt (unassigned values w) p ≡ unsetValue
-  unfolding valueAt unassigned
-  unassigned-here w q = rw q (getD-set-same values p unsetValue unsetValue inside)
+  unfolding unassigned stateOf
+  unassigned-here w q = rw q (state-here values p 0 0 (omega arith) (omega arith) inside size)
 
 module _ (values : Values) (w : ℕ) where
   pub assigned-elsewhere : (i : ℕ) → (w / 2 ≡ i → ⊥) → valueAt (assigned values w) i ≡ valueAt values i
-  unfolding valueAt assigned
-  assigned-elsewhere i other = getD-set-other values (w / 2) i (wordSign w) unsetValue (λ q. other (cc))
+  unfolding assigned
+  assigned-elsewhere i other = state-elsewhere values (w / 2) 1 (1 - w % 2) (omega arith) (omega arith) i other
 
   pub unassigned-elsewhere : (i : ℕ) → (w / 2 ≡ i → ⊥) → valueAt (unassigned values w) i ≡ valueAt values i
-  unfolding valueAt unassigned
-  unassigned-elsewhere i other = getD-set-other values (w / 2) i unsetValue unsetValue (λ q. other (cc))
+  unfolding unassigned
+  unassigned-elsewhere i other = state-elsewhere values (w / 2) 0 0 (omega arith) (omega arith) i other
 
   pub length-assigned : length (assigned values w) ≡ length values
   unfolding assigned
-  length-assigned = length-set values (w / 2) (wordSign w)
+  length-assigned = length-put values (w / 2) 1 (1 - w % 2)
 
   pub length-unassigned : length (unassigned values w) ≡ length values
   unfolding unassigned
-  length-unassigned = length-set values (w / 2) unsetValue
+  length-unassigned = length-put values (w / 2) 0 0
 
 -- atoms are unset in any order
 pub unassigned-either : (values : Values) (v w : ℕ) → unassigned (unassigned values v) w ≡ unassigned (unassigned values w) v
 unfolding unassigned
-unassigned-either values v w =
-    by-test (eqb (v / 2) (w / 2))
-    (λ e. let q = eqb-true (v / 2) (w / 2) e in rw q)
-    (λ e. set-comm values (v / 2) (w / 2) unsetValue unsetValue (eqb-false (v / 2) (w / 2) e))
+unassigned-either values v w = taken-either values (v / 2) (w / 2)
 
-pub length-none : length noValues ≡ 256
-length-none = length-replicate {A = Value} 256 unsetValue
+pub length-none : length noValues ≡ 8
+length-none = length-replicate {A = ℕ} 8 0
 
 pub no-value : (p : ℕ) → valueAt noValues p ≡ unsetValue
-unfolding valueAt
-no-value p = getD-repeated unsetValue 256 p
+unfolding valueAt setBit trueBit stateOf
+no-value p = rw (getD-repeated {A = ℕ} 0 8 (setPlace p), getD-repeated {A = ℕ} 0 8 (truePlace p), has-zero (p % 64))

@@ -139,6 +139,9 @@ module _ (budget : ℕ) (rules : List ℕ) (sizes : Sizes) (m : Machine) (run : 
   )
 
   -- step C
+  pub goals-few : sizes .atoms ≤ 64
+  goals-few = omega (arith, its-goals p (running .counts), running .rulesStand .limits .goals)
+
   pub goal-fits : (firstUnset (m .trail .values) 0 (sizes .atoms) ≡ sizes .atoms → ⊥) → (firstUnset (m .trail .values) 0 (sizes .atoms) < sizes .atoms) × (run .set < 256)
   goal-fits n =
       by-option (nextGoal (taskOf p) s)

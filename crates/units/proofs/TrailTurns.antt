@@ -1,15 +1,14 @@
 -- The loops over the trail, turn by turn: what is left to do comes to what all of it came to. Assumes nothing.
 use Prim.Native.Nat.{ℕ, suc, _+_, _-_, _<_, _≤_}
 use mathlib.Core.Path.{_≡_, sym, _∙_, ap}
-use mathlib.Core.Bool.{Bool, true, false}
 use mathlib.Core.List.{List}
 use native.Mathlib.Omega.{arith}
 use lib.ListN.{length, getD, take, drop}
 use borrow.Author.Tests.{eq-eqb, ne-eqb}
 use Rattle.definitions.specs.Search.{decided}
 use Rattle.encoding.specs.ArrayLaws.{part-cons, part-nil}
-use Rattle.encoding.specs.Values.{Values, unsetAt, unassigned}
-use Rattle.units.specs.TrailWords.{markOf, latestDecision, cleared, firstUnset}
+use Rattle.encoding.specs.Values.{Values, unassigned}
+use Rattle.units.specs.TrailWords.{markOf, latestDecision, cleared}
 
 module _ (marks : List ℕ) {x : ℕ} where
   pub decision-hit : (i : ℕ) → 0 < i → getD marks (i - 1) 0 ≡ markOf decided → latestDecision marks i ≡ x → i ≡ x
@@ -27,28 +26,6 @@ module _ (marks : List ℕ) {x : ℕ} where
   pub decision-end : (i : ℕ) → i ≤ 0 → latestDecision marks i ≡ x → 0 ≡ x
   unfolding latestDecision
   decision-end i h e = let f : i ≡ 0 = omega arith in rw (f, latestDecision) at e
-
-module _ (values : Values) (n : ℕ) where
-  pub unset-start : firstUnset values 0 (n - 0) ≡ firstUnset values 0 n
-  unset-start = let f : n - 0 ≡ n = omega arith in ap (firstUnset values 0) f
-
-  pub unset-hit : (i : ℕ) {x : ℕ} → i < n → {b : Bool} → b ≡ unsetAt values i → b ≡ true → firstUnset values i (n - i) ≡ x → i ≡ x
-  unfolding firstUnset
-  unset-hit i h its q e =
-      let f : n - i ≡ suc (n - (i + 1)) = omega arith in
-      rw (sym its ∙ q, firstUnset) at (ap (firstUnset values i) (sym f) ∙ e)
-
-  pub unset-turn : (i : ℕ) {x : ℕ} → i < n → {b : Bool} → b ≡ unsetAt values i → b ≡ false → firstUnset values i (n - i) ≡ x → firstUnset values (i + 1) (n - (i + 1)) ≡ x
-  unfolding firstUnset
-  unset-turn i {x = x} h its q e =
-      let f : n - i ≡ suc (n - (i + 1)) = omega arith in
-      let g : i + 1 ≡ suc i = omega arith in
-      let r : firstUnset values (suc i) (n - (i + 1)) ≡ x = rw (sym its ∙ q, firstUnset) at (ap (firstUnset values i) (sym f) ∙ e) in
-      ap (λ (k : ℕ). firstUnset values k (n - (i + 1))) g ∙ r
-
-  pub unset-end : (i : ℕ) {x : ℕ} → n ≤ i → firstUnset values i (n - i) ≡ x → i ≡ x
-  unfolding firstUnset
-  unset-end i h e = let f : n - i ≡ 0 = omega arith in rw (f, firstUnset) at e
 
 module _ (trail : List ℕ) (n : ℕ) where
   pub undo-turn : (values : Values) (i : ℕ) {x next : Values} → i < n → n ≤ length trail → next ≡ unassigned values (getD trail i 0)

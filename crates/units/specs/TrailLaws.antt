@@ -52,7 +52,7 @@ state-other e t a n =
     cc (true-other e t (plain a) (λ q. n (ap (λ (x : Literal). x .atom) q ∙ plain-atom a)), true-other e t (negate (plain a)) (λ q. n (ap (λ (x : Literal). x .atom) q ∙ negate-atom (plain a) ∙ plain-atom a)))
 
 -- and its own atom has the value that setting its literal gives
-module _ (table : List Atom) (values : Values) (e : Entry) (t : Trail) (inside : position table (e .literal .atom) < length values) where
+module _ (table : List Atom) (values : Values) (e : Entry) (t : Trail) (inside : position table (e .literal .atom) < 256) (size : length values ≡ 8) where
   abbrev its : Atom
   its = e .literal .atom
 
@@ -62,7 +62,7 @@ module _ (table : List Atom) (values : Values) (e : Entry) (t : Trail) (inside :
   stored-plain : e .literal ≡ plain its → stored (literalWord table (e .literal)) ≡ atomState (e ∷ t) its
   stored-plain q =
       let holds = at-true (e ∷ t) (plain its) (record { entry = e; inside = List·Memᴰ·head refl; its = q }) in
-      ap stored (ap (literalWord table) q ∙ word-plain table its) ∙ assigned-even values (position table its) inside ∙ sym (truth-true (e ∷ t) (plain its) holds)
+      ap stored (ap (literalWord table) q ∙ word-plain table its) ∙ assigned-even values (position table its) inside size ∙ sym (truth-true (e ∷ t) (plain its) holds)
 
   stored-negated : e .literal ≡ negate (plain its) → isUnset t (e .literal) ≡ true → stored (literalWord table (e .literal)) ≡ atomState (e ∷ t) its
   unfolding isFalse
@@ -70,7 +70,7 @@ module _ (table : List Atom) (values : Values) (e : Entry) (t : Trail) (inside :
       let holds = at-true (e ∷ t) (negate (plain its)) (record { entry = e; inside = List·Memᴰ·head refl; its = q }) in
       let other = true-other e t (plain its) (λ r. negate-differs (plain its) (sym q ∙ r)) in
       let before : isTrue t (plain its) ≡ false = ap (isTrue t) (sym (negate-negate (plain its)) ∙ ap negate (sym q)) ∙ unset-not-false t (e .literal) u in
-      ap stored (ap (literalWord table) q ∙ word-negated table its) ∙ assigned-odd values (position table its) inside ∙ sym (truth-false (e ∷ t) (plain its) (other ∙ before) holds)
+      ap stored (ap (literalWord table) q ∙ word-negated table its) ∙ assigned-odd values (position table its) inside size ∙ sym (truth-false (e ∷ t) (plain its) (other ∙ before) holds)
 
   assigned-state : isUnset t (e .literal) ≡ true → stored (literalWord table (e .literal)) ≡ atomState (e ∷ t) its
   assigned-state u =
@@ -87,7 +87,7 @@ entryMark e = markOf (e .why)
 -- the arrays have their sizes
 pub record Room (table : List Atom) (values : Values) (trail marks : List ℕ) : Type 0 where
   pub table-size : length table ≤ 256
-  pub values-size : length values ≡ 256
+  pub values-size : length values ≡ 8
   pub trail-size : length trail ≡ 256
   pub marks-size : length marks ≡ 256
 
@@ -122,7 +122,7 @@ set-stands {table} {t} {values} {trail} {marks} r s l y u m h =
       words = push (entryWord table) e t trail (omega (arith, r .trail-size)) (s .words);
       whys = push entryMark e t marks (omega (arith, r .marks-size)) (s .whys);
       valued = changed-valued table values (assigned values w) l m (assigned-elsewhere values w) t (e ∷ t) (s .valued)
-          (assigned-state table values e t (omega (arith, r .table-size, r .values-size, position-inside table (l .atom) m)) u)
+          (assigned-state table values e t (omega (arith, r .table-size, position-inside table (l .atom) m)) (r .values-size) u)
           (state-other e t);
       outside = changed-outside table values (assigned values w) l m (assigned-elsewhere values w) (s .outside);
     }
@@ -148,15 +148,15 @@ words-small {table} {t} {trail = trail} h s g =
     each-place (entryWord table) (λ (w : ℕ). w < 512) t trail (s .words) (λ e m. word-small table (e .literal) h (g e m))
 
 -- the latest entry is undone
-unset-latest : {table : List Atom} {e : Entry} {t : Trail} {values : Values} {trail marks : List ℕ} → length table ≤ length values → TrailStands table (e ∷ t) values trail marks
+unset-latest : {table : List Atom} {e : Entry} {t : Trail} {values : Values} {trail marks : List ℕ} → length table ≤ 256 → length values ≡ 8 → TrailStands table (e ∷ t) values trail marks
     → e .literal .atom ∈ table → (e .literal .atom ∈ map atomOf t → ⊥)
     → TrailStands table t (unassigned values (literalWord table (e .literal))) trail marks
-unset-latest {table} {e} {t} {values} {trail} {marks} h s m n =
+unset-latest {table} {e} {t} {values} {trail} {marks} h size s m n =
     record {
       words = pop (entryWord table) e t trail (s .words);
       whys = pop entryMark e t marks (s .whys);
       valued = changed-valued table values (unassigned values w) (e .literal) m (unassigned-elsewhere values w) (e ∷ t) t (s .valued)
-          (unassigned-here values (position table a) (omega (arith, position-inside table a m)) w (word-half table (e .literal)) ∙ sym (truth-unset t (plain a) (new-unset t (plain a) (rw plain-atom n))))
+          (unassigned-here values (position table a) (omega (arith, position-inside table a m)) size w (word-half table (e .literal)) ∙ sym (truth-unset t (plain a) (new-unset t (plain a) (rw plain-atom n))))
           (λ b k. sym (state-other e t b k));
       outside = changed-outside table values (unassigned values w) (e .literal) m (unassigned-elsewhere values w) (s .outside);
     }
@@ -175,7 +175,7 @@ unfolding cleared
 undo-stands [] t r s g d = let z : length t - length t ≡ 0 = omega arith in rw (z, cleared) s
 undo-stands {table} (e ∷ above) t {values} {trail} {marks} r s g d =
     let rest = above ++ t in
-    let next = unset-latest (omega (arith, r .table-size, r .values-size)) s (g e (List·Memᴰ·head refl)) (d .0) in
+    let next = unset-latest (r .table-size) (r .values-size) s (g e (List·Memᴰ·head refl)) (d .0) in
     let sizes : Room table (unassigned values (literalWord table (e .literal))) trail marks = room-kept r (length-unassigned values (literalWord table (e .literal))) refl refl in
     let long : length t ≤ length rest = omega (arith, length-append above t) in
     rw (cleared-latest values trail (length t) (length rest) long (fits (entryWord table) (e ∷ rest) trail (s .words)) (top (entryWord table) e rest trail (s .words))) (undo-stands above t sizes next (λ c k. g c (List·Memᴰ·tail k)) (d .1))

@@ -4,6 +4,7 @@ ghost use Prim.Native.Nat.{ℕ, _-_, _≤_, _<_};
 ghost use lib.ListN.{length, getD, set, take, drop};
 ghost use Rattle.encoding.specs.Values.{assigned};
 ghost use Rattle.units.specs.TrailWords.{latestDecision, cleared, firstUnset};
+use bits::long;
 use encoding::ATOMS;
 use encoding::values;
 use encoding::values::Values;
@@ -61,17 +62,12 @@ pub fn undo(values: &mut Values, trail: &[u16; ATOMS], from: usize, n: usize)
     }
 }
 
-// The first unset position among the first, or their number.
+// The first unset goal atom, or their number: the low zeros of the unset word, masked by the number of goal atoms, are 64 where all are set.
 pub fn first_unset(values: &Values, goals: usize) -> usize
-    requires { ⌜ goals ≤ 256 ⌝ }
+    requires { ⌜ goals ≤ 64 ⌝ }
     ensures { λ r. ⌜ r ≡ firstUnset (now (values .entry)) 0 goals ⌝ }
 {
-    let mut i: usize = 0;
-    while i < goals {
-        if values::is_unset(values, i) {
-            return i;
-        }
-        i += 1;
-    }
-    i
+    let unset = 0xffff_ffff_ffff_ffff - values::goals_set(values);
+    let a = long::low_zeros(unset & long::low_bits(goals));
+    if a < 64 { a } else { goals }
 }

@@ -1,20 +1,17 @@
--- `values::is_unset` meets its contract, by the value of the atom's plain literal. Assumes nothing.
-use borrow.Author.Needs.{needs, sfits-of}
-use Rattle.encoding.proofs.ValueTests.{unset-is}
+-- `values::is_unset` meets its contract. Assumes nothing.
+use borrow.Author.Needs.{needs}
+use Rattle.encoding.proofs.ValueTests.{unset-read}
 use Rattle.encoding.proofs.values.is_unset.Statement.{statement}
 use Rattle.encoding.proofs.values.is_unset.Tie as tie
 
-mul-w : tie.Need-mul-w
-mul-w c = search needs
+mul-pair : tie.Need-mul-pair
+mul-pair c = search needs
 
-cast-value : tie.Need-cast-value
-cast-value c = search needs
-
-value-requires : tie.Need-value-requires
-value-requires c κs = search needs
+bit-in-requires : tie.Need-bit-in-requires
+bit-in-requires c κs = search needs
 
 returns : tie.Need-returns
-returns c = unset-is _ (sfits-of (c .value .ok)) _ (c .value .ensures)
+returns c = unset-read _ _ (c .bit-in .result) (c .bit-in .ensures .0) (c .bit-in .ensures .1)
 
 pub is-unset-spec : {M : Type 1} → statement M
-is-unset-spec = tie.close (tie.spec mul-w cast-value value-requires returns)
+is-unset-spec = tie.close (tie.spec mul-pair bit-in-requires returns)

@@ -1,31 +1,35 @@
--- `values::state_at` meets its contract: a state fits a wider type. Assumes nothing.
-use mathlib.Core.Path.{sym, subst}
-use lib.ListN.{getD}
-use borrow.Author.Needs.{needs, sfits-of}
+-- `values::state_at` meets its contract. Assumes nothing.
+use mathlib.Core.Path.{_∙_}
+use borrow.Author.Needs.{needs}
 use mir.Syntax.{w8}
-use mir.Val.{SFits}
-use Rattle.definitions.specs.LiteralTest.{Value, unsetValue}
-use Rattle.encoding.specs.Values.{valueAt}
-use Rattle.encoding.proofs.ValueTests.{state-fits, state-is}
+use mir.Facts.{sfits-widen, toZ-ofZ}
+use Rattle.encoding.proofs.ValueTests.{state-fits, state-read}
 use Rattle.encoding.proofs.values.state_at.Statement.{statement}
 use Rattle.encoding.proofs.values.state_at.Tie as tie
 
-element-copy-out-result : tie.Need-element-copy-out-result
-element-copy-out-result c = search needs
+mul-pair : tie.Need-mul-pair
+mul-pair c = search needs
 
--- what was read
-abbrev stateRead : tie.After-result → Value
-stateRead c = getD (c .before .args .values .now) (c .before .args .at) unsetValue
+add-next : tie.Need-add-next
+add-next c = search needs
 
-cast-result : tie.Need-cast-result
-cast-result c = state-fits (stateRead c) (sfits-of (c .result .given))
+bit-in-requires : tie.Need-bit-in-requires
+bit-in-requires c κs = search needs
+
+bit-in-requires-2 : tie.Need-bit-in-requires-2
+bit-in-requires-2 c κs = search needs
+
+state-of-requires : tie.Need-state-of-requires
+state-of-requires c κs = search needs
 
 returns : tie.Need-returns
-unfolding valueAt
 returns c =
-    let fits : SFits w8 (stateRead c) = sfits-of (c .result .given) in
-    let e = state-is (stateRead c) fits in
-    (e, subst (SFits w8) (sym e) fits)
+    let set = c .before .before .bit-in in
+    let truth = c .before .bit-in2 in
+    let same = state-read _ _ (set .result) (set .ensures .0) (truth .result) (truth .ensures .0) (c .state-of .ensures) in
+    toZ-ofZ (sfits-widen {w = w8} tt (state-fits _ _ same)) ∙ same
 
 pub state-at-spec : {M : Type 1} → statement M
-state-at-spec = tie.close (tie.spec element-copy-out-result cast-result returns)
+state-at-spec =
+    tie.close
+    (tie.spec mul-pair add-next bit-in-requires bit-in-requires-2 state-of-requires returns)
