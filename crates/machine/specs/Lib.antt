@@ -13,3 +13,4 @@ pub mod Upkeep
 pub mod Stepping
 pub mod Loading
 pub mod Finished
+pub mod RunStands

@@ -2,7 +2,7 @@
 use Prim.Native.Nat.{ℕ, _<_, _^_}
 use mathlib.Core.Path.{_≡_, refl, sym, ap, subst, _∙_}
 use mathlib.Core.List.{List, map}
-use lib.ListN.{length, replicate}
+use lib.ListN.{length, replicate, length-replicate}
 use lib.Seq.{sets, length-sets}
 use Rattle.encoding.specs.Lengths.{literalArray, ruleArray, startArray}
 use Rattle.definitions.specs.Lists.{joined}
@@ -12,8 +12,8 @@ use Rattle.definitions.specs.Search.{start, search}
 use Rattle.definitions.specs.Questions.{read, accepted}
 use Rattle.theory.specs.Limits.{limits-searchable, accepted-limits}
 use Rattle.encoding.specs.Slots.{ruleWords}
-use Rattle.encoding.specs.Values.{Values, noValues}
-use Rattle.encoding.specs.Encoding.{atomCode, clauseWords, startsFrom, Arrays, hold, sizesOf, emptyIndex}
+use Rattle.encoding.specs.Values.{noValues}
+use Rattle.encoding.specs.Encoding.{atomCode, clauseWords, startsFrom, Arrays, arrays, hold, sizesOf, emptyIndex}
 use Rattle.encoding.specs.declared.Sizes.{Sizes}
 use Rattle.machine.specs.Machine.{Machine, machine, Stands, RulesStand, EndStands, EndsRun, Lengths, Loaded}
 use Rattle.machine.specs.MachineStart.{rules-stand, machine-start}
@@ -31,11 +31,7 @@ startRun sizes = record { atoms = sizes .atoms; clauses = sizes .clauses; set = 
 stored-length : (l ws after : List ℕ) (n : ℕ) → after ≡ sets l 0 ws → length after ≡ n → length l ≡ n
 stored-length l ws after n e h = sym (length-sets l 0 ws) ∙ ap length (sym e) ∙ h
 
-module _ (p : Problem) (sizes : Sizes) (budget : ℕ) (rules starts literals heads numbers table index : List ℕ) (values : Values) (trail marks : List ℕ)
-    (loaded : Loaded p sizes rules (machine starts literals heads numbers table index values trail marks)) where
-  abbrev m : Machine
-  m = machine starts literals heads numbers table index values trail marks
-
+module _ (p : Problem) (sizes : Sizes) (budget : ℕ) (rules : List ℕ) (m : Machine) (loaded : Loaded p sizes rules m) where
   abbrev lengths : Lengths rules m
   lengths = loaded .lengths
 
@@ -45,25 +41,27 @@ module _ (p : Problem) (sizes : Sizes) (budget : ℕ) (rules starts literals hea
 
   before-starts : length (loaded .before .starts) ≡ startArray
   unfolding hold
-  before-starts = stored-length (loaded .before .starts) (startsFrom 0 (p .clauses)) starts startArray (loaded .itsStarts) (lengths .ofStarts)
+  before-starts = stored-length (loaded .before .starts) (startsFrom 0 (p .clauses)) (m .store .starts) startArray (loaded .itsStarts) (lengths .ofStarts)
 
   before-literals : length (loaded .before .literals) ≡ literalArray
   unfolding hold
   before-literals =
-      stored-length (loaded .before .literals) (joined (clauseWords (goalAtoms (p .clauses))) (p .clauses)) literals literalArray (loaded .itsLiterals) (lengths .ofLiterals)
+      stored-length (loaded .before .literals) (joined (clauseWords (goalAtoms (p .clauses))) (p .clauses)) (m .store .literals) literalArray (loaded .itsLiterals) (lengths .ofLiterals)
 
   before-table : length (loaded .before .table) ≡ 256
   unfolding hold
-  before-table = stored-length (loaded .before .table) (map atomCode (goalAtoms (p .clauses))) table 256 (loaded .itsTable) (lengths .ofTable)
+  before-table = stored-length (loaded .before .table) (map atomCode (goalAtoms (p .clauses))) (m .table .codes) 256 (loaded .itsTable) (lengths .ofTable)
 
-  loaded-rules : RulesStand p rules
+  pub loaded-rules : RulesStand p rules
   loaded-rules = subst (RulesStand p) (sym (loaded .itsRules)) (rules-stand p (loaded .limits) (loaded .before) before-rules)
 
-  loaded-stands : Stands p budget (start (taskOf p)) m (startRun sizes)
+  pub loaded-stands : Stands p budget (start (taskOf p)) m (startRun sizes)
   unfolding startRun sizesOf
   loaded-stands =
       rw (loaded .counts, loaded .itsStarts, loaded .itsLiterals, loaded .itsTable, loaded .itsIndex)
-      (machine-start p (loaded .limits) budget (loaded .before) (loaded .empty) before-starts before-literals before-table heads numbers values trail marks (lengths .ofHeads) (lengths .ofNumbers) (loaded .unset) (lengths .ofTrail) (lengths .ofMarks))
+      (machine-start p (loaded .limits) budget (loaded .before) (loaded .empty) before-starts before-literals before-table
+      (m .store .heads) (m .store .numbers) (m .trail .values) (m .trail .words) (m .trail .marks)
+      (lengths .ofHeads) (lengths .ofNumbers) (loaded .unset) (lengths .ofTrail) (lengths .ofMarks))
 
   -- a step can be made, with masks that hold nothing
   pub loaded-stepping : budget < 2 ^ 32
@@ -102,3 +100,37 @@ accepted-loaded sheet p read-as before empty heads numbers trail marks lengths =
       itsIndex = refl;
       unset = refl;
     }
+
+-- and there are such arrays: of zeros before, as a call has them
+abbrev zeros : ℕ → List ℕ
+zeros n = replicate n 0
+
+length-zeros : (n : ℕ) → length (zeros n) ≡ n
+length-zeros n = length-replicate {A = ℕ} n 0
+
+abbrev zeroArrays : Arrays
+zeroArrays = arrays (zeros 16) (zeros ruleArray) (zeros startArray) (zeros literalArray) (zeros 256) emptyIndex
+
+abbrev firstMachine : Problem → Machine
+firstMachine p = heldMachine p zeroArrays (zeros 512) (zeros 512) (zeros 256) (zeros 256)
+
+first-lengths : (p : Problem) → Lengths (hold p zeroArrays .rules) (firstMachine p)
+unfolding hold
+first-lengths p =
+    record {
+      ofRules = written ruleArray (joined ruleWords (p .rules));
+      ofStarts = written startArray (startsFrom 0 (p .clauses));
+      ofLiterals = written literalArray (joined (clauseWords (goalAtoms (p .clauses))) (p .clauses));
+      ofHeads = length-zeros 512;
+      ofNumbers = length-zeros 512;
+      ofTable = written 256 (map atomCode (goalAtoms (p .clauses)));
+      ofTrail = length-zeros 256;
+      ofMarks = length-zeros 256;
+    }
+  where
+    written : (n : ℕ) (ws : List ℕ) → length (sets (zeros n) 0 ws) ≡ n
+    written n ws = length-sets (zeros n) 0 ws ∙ length-zeros n
+
+pub accepted-arrays : (sheet : List ℕ) (p : Problem) → read sheet ≡ accepted p → (rules : List ℕ) × (m : Machine) × Loaded p (sizesOf p) rules m
+accepted-arrays sheet p read-as =
+    (hold p zeroArrays .rules, firstMachine p, accepted-loaded sheet p read-as zeroArrays refl (zeros 512) (zeros 512) (zeros 256) (zeros 256) (first-lengths p))

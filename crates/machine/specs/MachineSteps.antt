@@ -117,6 +117,15 @@ machineStep rules sizes budget m run =
       ]
     ]
 
+-- so many steps, or fewer if one of them ends the search
+unfoldable pub machineRun : List ℕ → Sizes → ℕ → ℕ → Machine → Run → Stepped Machine
+machineRun rules sizes budget zero m run = stepped (More run) m
+machineRun rules sizes budget (suc n) m run =
+    elim (machineStep rules sizes budget m run .next) [
+      | More next ↦ machineRun rules sizes budget n (machineStep rules sizes budget m run .arrays) next
+      | Done v last ↦ machineStep rules sizes budget m run
+    ]
+
 -- ── what a function that makes such a step answers and leaves in the arrays that it is lent ──
 
 abbrev pub TrailStep : (TrailArrays → Run → Stepped TrailArrays) → Run → Next → Both TrailArrays TrailArrays → Type 0

@@ -12,7 +12,7 @@ use mathlib.Core.List.{List, _++_, map}
 use lib.ListN.{length, take}
 use Rattle.definitions.specs.Lists.{_∈_, all, distinct}
 use Rattle.definitions.specs.Bounds.{sheetBytes, roomBytes, mostAtoms, mostExported, exportBytes}
-use Rattle.definitions.specs.Words.{Atom, Literal, sameLiteral, Rule, Problem}
+use Rattle.definitions.specs.Words.{Atom, Literal, sameLiteral, Rule, Problem, goalAtoms}
 use Rattle.definitions.specs.Instances.{substitutions, Instance, Task, taskOf, FillingOf}
 use Rattle.definitions.specs.Meaning.{Choice, Fails, Assignment, Satisfies}
 use Rattle.definitions.specs.Sheet.{Line, nothing, decimal}
@@ -38,10 +38,15 @@ use Rattle.theory.specs.CnfReads.{cnf-round-trip, cnf-exact}
 use Rattle.theory.specs.CnfRefusals.{cnf-refusals, bad-header, good-header}
 use Rattle.theory.specs.Exports.{export-limits, export-size}
 use Rattle.theory.specs.ExportLaws.{export-comes, export-as-first-call, exported-read-back}
-use Rattle.encoding.specs.Encoding.{literalWord}
-use Rattle.encoding.specs.Values.{Values, literalValue}
-use Rattle.encoding.specs.Standing.{Valued}
+use Rattle.encoding.specs.Encoding.{literalWord, sizesOf}
+use Rattle.encoding.specs.Values.{Values, goalsSet, goalsTrue, literalValue}
+use Rattle.encoding.specs.Standing.{Valued, GoalWords}
 use Rattle.encoding.specs.WordTruths.{value-test}
+use Rattle.encoding.specs.StateTable.{statesIn, stateTable, ValuesFit, table-words}
+use Rattle.encoding.specs.declared.Sizes.{Sizes}
+use Rattle.machine.specs.Machine.{Machine, Loaded}
+use Rattle.machine.specs.Loading.{accepted-arrays}
+use Rattle.machine.specs.RunStands.{valuesAfter, run-words}
 use Rattle.cnf_reader.specs.CnfArrays.{cnfRead, heldClauses}
 use Rattle.cnf_reader.specs.CnfArrayLaws.{cnf-held}
 
@@ -211,3 +216,30 @@ request-5-once = clause-once
 pub request-5-heads : (k : Task) (t : Trail) (g : Logged)
     → loggedAct k t g ≡ actOn t (λ (l : Literal). isGoal k l || all (isTrue t) (distinct sameLiteral (g .instance .heads))) (notFalse t (clauseOf g))
 request-5-heads = heads-once
+
+-- 6/14. The states of the goal atoms are two words of 64 bits, the first for set and the second for true. `search` asks for arrays that a
+-- problem was read into (`Loaded`), and by the contract of `one_step` each of its steps is one of `machineStep`. After however many steps, the
+-- last too,
+module _ (p : Problem) (sizes : Sizes) (rules : List ℕ) (m : Machine) (loaded : Loaded p sizes rules m) (budget steps : ℕ) where
+  abbrev reached : State
+  reached = cameTo (run (taskOf p) budget steps (start (taskOf p)))
+
+  abbrev words : Values
+  words = valuesAfter rules sizes budget steps m
+
+  -- bit k of each word says what the trail says of goal atom k,
+  pub request-6 : GoalWords (goalAtoms (p .clauses)) (reached .trail) (goalsSet words) (goalsTrue words)
+  request-6 = run-words p sizes rules m loaded budget steps .goals
+
+  -- and these words and those of the created atoms give the table of states that was kept before them.
+  pub request-6-table : statesIn words ≡ stateTable (reached .table) (reached .trail)
+  request-6-table = run-words p sizes rules m loaded budget steps .states
+
+-- The other way, that table gives the words: two with one table are equal. No contract of a call changed by a word, so all answers and
+-- listings are equal.
+pub request-6-words : (v u : Values) → ValuesFit v → ValuesFit u → statesIn v ≡ statesIn u → v ≡ u
+request-6-words = table-words
+
+-- There are such arrays for every accepted sheet.
+pub request-6-arrays : (sheet : List ℕ) (p : Problem) → read sheet ≡ accepted p → (rules : List ℕ) × (m : Machine) × Loaded p (sizesOf p) rules m
+request-6-arrays = accepted-arrays

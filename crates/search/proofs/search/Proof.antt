@@ -8,11 +8,11 @@ to-the-end-requires : tie.Need-to-the-end-requires
 unfolding startRun
 to-the-end-requires c κs =
     let start = c .before .before .before .before .before .before .before .before .before .before .before .before .before in
-    loaded-stepping (start .pre .0) _ _ _ _ _ _ _ _ _ _ _ _ (start .pre .1) (omega arith)
+    loaded-stepping (start .pre .0) _ _ _ _ (start .pre .1) (omega arith)
 
 returns : tie.Need-returns
 unfolding startRun
-returns c = λ p loaded. loaded-ends p _ _ _ _ _ _ _ _ _ _ _ _ loaded _ _ (c .to-the-end .ensures)
+returns c = λ p loaded. loaded-ends p _ _ _ _ loaded _ _ (c .to-the-end .ensures)
 
 pub search-spec : {M : Type 1} → statement M
 search-spec = tie.close (tie.spec to-the-end-requires returns)
