@@ -217,9 +217,13 @@ pub request-5-heads : (k : Task) (t : Trail) (g : Logged)
     → loggedAct k t g ≡ actOn t (λ (l : Literal). isGoal k l || all (isTrue t) (distinct sameLiteral (g .instance .heads))) (notFalse t (clauseOf g))
 request-5-heads = heads-once
 
--- 6/14. The states of the goal atoms are two words of 64 bits, the first for set and the second for true. `search` asks for arrays that a
--- problem was read into (`Loaded`), and by the contract of `one_step` each of its steps is one of `machineStep`. After however many steps, the
--- last too,
+-- 6/14. The states of the goal atoms are two words of 64 bits, one for set and one for true. They are in the arrays of a search. `Loaded` is
+-- what `search` requires of these for a problem, and there are such arrays for every accepted sheet.
+pub request-6-arrays : (sheet : List ℕ) (p : Problem) → read sheet ≡ accepted p → (rules : List ℕ) × (m : Machine) × Loaded p (sizesOf p) rules m
+request-6-arrays = accepted-arrays
+
+-- By the contract of `one_step` a step of the code is one of `machineStep`, so `valuesAfter` are the words after so many of them. However many
+-- they are, and where the search ends too,
 module _ (p : Problem) (sizes : Sizes) (rules : List ℕ) (m : Machine) (loaded : Loaded p sizes rules m) (budget steps : ℕ) where
   abbrev reached : State
   reached = cameTo (run (taskOf p) budget steps (start (taskOf p)))
@@ -231,15 +235,11 @@ module _ (p : Problem) (sizes : Sizes) (rules : List ℕ) (m : Machine) (loaded 
   pub request-6 : GoalWords (goalAtoms (p .clauses)) (reached .trail) (goalsSet words) (goalsTrue words)
   request-6 = run-words p sizes rules m loaded budget steps .goals
 
-  -- and these words and those of the created atoms give the table of states that was kept before them.
+  -- and with those of the created atoms the words give the table of states that was kept before.
   pub request-6-table : statesIn words ≡ stateTable (reached .table) (reached .trail)
   request-6-table = run-words p sizes rules m loaded budget steps .states
 
--- The other way, that table gives the words: two with one table are equal. No contract of a call changed by a word, so all answers and
--- listings are equal.
+-- The other way, the table gives the words: where two have one table, they are equal. All answers and listings are equal, since the contracts
+-- of the calls are word for word as they were.
 pub request-6-words : (v u : Values) → ValuesFit v → ValuesFit u → statesIn v ≡ statesIn u → v ≡ u
 request-6-words = table-words
-
--- There are such arrays for every accepted sheet.
-pub request-6-arrays : (sheet : List ℕ) (p : Problem) → read sheet ≡ accepted p → (rules : List ℕ) × (m : Machine) × Loaded p (sizesOf p) rules m
-request-6-arrays = accepted-arrays
