@@ -53,10 +53,10 @@ literal-sign table l =
     (λ p. rw p (odd-sign _ (word-bit true (position table (l .atom)))))
 
 module _ (table : List Atom) (t : Trail) (values : Values) (valued : Valued table t values) where
-  pub set-bit : (a : Atom) → a ∈ table → setBit values (position table a) ≡ not (isUnset t (plain a))
+  set-bit : (a : Atom) → a ∈ table → setBit values (position table a) ≡ not (isUnset t (plain a))
   set-bit a m = set-told values (position table a) ∙ ap tellsSet (valued a m) ∙ truth-tells-set t (plain a)
 
-  pub true-bit : (a : Atom) → a ∈ table → trueBit values (position table a) ≡ isTrue t (plain a)
+  true-bit : (a : Atom) → a ∈ table → trueBit values (position table a) ≡ isTrue t (plain a)
   true-bit a m = true-told values (position table a) ∙ ap tellsTrue (valued a m) ∙ truth-tells-true t (plain a)
 
   pub unset-at : (a : Atom) → a ∈ table → unsetAt values (position table a) ≡ isUnset t (plain a)
