@@ -31,6 +31,13 @@ mostHeads = 3
 abbrev pub mostBody : ℕ
 mostBody = 2
 
+-- 7/14: heads of a two-way rule that are kept, and heads that are rewritten
+abbrev pub mostKept : ℕ
+mostKept = 2
+
+abbrev pub mostRewritten : ℕ
+mostRewritten = 2
+
 abbrev pub mostClauses : ℕ
 mostClauses = 64
 

@@ -1,5 +1,5 @@
--- Document 01, "Words": four sheets that don't keep another one's clauses, rules, symbols or constants, and one that keeps them all,
--- by computing the lines of each kind. Assumes nothing.
+-- Document 01, "Words": five sheets that don't keep another one's clauses, rules, two-way rules, symbols or constants, and one that keeps
+-- them all, by computing the lines of each kind. Assumes nothing.
 use Prim.Native.Nat.{ℕ, _≤_}
 use mathlib.Core.Path.{_≡_, refl, ap}
 use mathlib.Core.Logic.{inl, inr}
@@ -12,11 +12,11 @@ use Rattle.definitions.specs.Questions.{Questions·all}
 use Rattle.definitions.specs.Sheets.{Row, Keeps, Sheets·all}
 use Rattle.definitions.specs.Text.{text, Text·all}
 
--- q(X) gives p, twice; p; not q(1). Symbol 3 stands in no rule and no clause
+-- q(X) gives p, twice, and between them q(X) <=> p; p; not q(1). Symbol 3 stands in no rule and no clause
 unfoldable pub first : List ℕ
 first =
     text ("   1   2" ∷ "   2   0" ∷ "   2   1" ∷ "   2   0" ∷ [])
-    ++ text ("   3   1   1   2   1   1" ∷ "   3   1   1   2   1   1" ∷ [])
+    ++ text ("   3   1   1   2   1   1" ∷ "   8   0   1   1   2   1   1" ∷ "   3   1   1   2   1   1" ∷ [])
     ++ text ("   4   1   1" ∷ "   4   1  -2   1" ∷ [])
 
 -- the size of a line's number, columns counted from 0; lines that differ there are different
@@ -27,7 +27,7 @@ sizeAt n r = getD r n (plus 0) .size
 unfoldable pub lacking : List ℕ
 lacking =
     text ("   1   2" ∷ "   2   0" ∷ "   2   1" ∷ "   2   0" ∷ [])
-    ++ text ("   3   1   1   2   1   1" ∷ "   3   1   1   2   1   1" ∷ [])
+    ++ text ("   3   1   1   2   1   1" ∷ "   8   0   1   1   2   1   1" ∷ "   3   1   1   2   1   1" ∷ [])
     ++ text ("   4   1   1" ∷ "   4   1  -2   2" ∷ [])
 
 pub forgotten : Keeps first lacking → ⊥
@@ -45,7 +45,7 @@ forgotten k =
 unfoldable pub otherRule : List ℕ
 otherRule =
     text ("   1   2" ∷ "   2   0" ∷ "   2   1" ∷ "   2   0" ∷ [])
-    ++ text ("   3   1   1   2   2   1" ∷ [])
+    ++ text ("   3   1   1   2   2   1" ∷ "   8   0   1   1   2   1   1" ∷ [])
     ++ text ("   4   1   1" ∷ "   4   1  -2   1" ∷ [])
 
 pub forgotten-rule : Keeps first otherRule → ⊥
@@ -56,11 +56,22 @@ forgotten-rule k =
       | inr m ↦ List·Memᴰ·not-nil m
     ]
 
+-- q(X) <=> p has become a rule forwards alone, which the first sheet has too
+unfoldable pub forwardAlone : List ℕ
+forwardAlone =
+    text ("   1   2" ∷ "   2   0" ∷ "   2   1" ∷ "   2   0" ∷ [])
+    ++ text ("   3   1   1   2   1   1" ∷ "   3   1   1   2   1   1" ∷ [])
+    ++ text ("   4   1   1" ∷ "   4   1  -2   1" ∷ [])
+
+pub forgotten-two-way : Keeps first forwardAlone → ⊥
+unfolding first forwardAlone Text·all Lists·all Sheet·all Questions·all Sheets·all
+forgotten-two-way k = List·Memᴰ·not-nil (k .twoWays _ (List·Memᴰ·head refl))
+
 -- symbol 3 has an argument
 unfoldable pub otherArity : List ℕ
 otherArity =
     text ("   1   2" ∷ "   2   0" ∷ "   2   1" ∷ "   2   1" ∷ [])
-    ++ text ("   3   1   1   2   1   1" ∷ "   3   1   1   2   1   1" ∷ [])
+    ++ text ("   3   1   1   2   1   1" ∷ "   8   0   1   1   2   1   1" ∷ "   3   1   1   2   1   1" ∷ [])
     ++ text ("   4   1   1" ∷ "   4   1  -2   1" ∷ [])
 
 pub forgotten-arity : Keeps first otherArity → ⊥
@@ -71,19 +82,19 @@ forgotten-arity k = let z : _≡_ {A = ℕ} 1 0 = ap (λ (l : List Row). sizeAt 
 unfoldable pub fewerConstants : List ℕ
 fewerConstants =
     text ("   1   1" ∷ "   2   0" ∷ "   2   1" ∷ "   2   0" ∷ [])
-    ++ text ("   3   1   1   2   1   1" ∷ "   3   1   1   2   1   1" ∷ [])
+    ++ text ("   3   1   1   2   1   1" ∷ "   8   0   1   1   2   1   1" ∷ "   3   1   1   2   1   1" ∷ [])
     ++ text ("   4   1   1" ∷ "   4   1  -2   1" ∷ [])
 
 pub forgotten-constant : Keeps first fewerConstants → ⊥
 unfolding first fewerConstants Text·all Lists·all Sheet·all Questions·all Sheets·all
 forgotten-constant k = let z : 2 ≤ 1 = k .constants in omega arith
 
--- one constant and one symbol more; the rule once, between two others; the clauses in another order, with a third between them; and
--- blank columns on lines that are kept
+-- one constant and one symbol more; the rule once, behind another; the two-way rule behind another; the clauses in another order, with a
+-- third between them; and blank columns on lines that are kept
 unfoldable pub second : List ℕ
 second =
     text ("   1       3" ∷ "   2   0" ∷ "   2   1    " ∷ "       2   0" ∷ "   2   2" ∷ [])
-    ++ text ("   3   1   0   4   1   1" ∷ "   3   1   1       2   1   1" ∷ "   3   1   1   1   2  -3" ∷ [])
+    ++ text ("   3   1   0   4   1   1" ∷ "   3   1   1       2   1   1" ∷ "   8   0   1   0   1" ∷ "   8       0   1   1   2   1   1" ∷ [])
     ++ text ("   4   1      -2   1" ∷ "   4   1  -2   2" ∷ "       4   1   1    " ∷ [])
 
 pub kept : Keeps first second
@@ -96,6 +107,7 @@ kept =
         | inl e ↦ List·Memᴰ·tail (List·Memᴰ·head e)
         | inr n ↦ elim (List·Memᴰ·cases-cons n) [ inl e ↦ List·Memᴰ·tail (List·Memᴰ·head e) | inr o ↦ absurd (List·Memᴰ·not-nil o) ]
       ];
+      twoWays = λ r m. elim (List·Memᴰ·cases-cons m) [ inl e ↦ List·Memᴰ·tail (List·Memᴰ·head e) | inr o ↦ absurd (List·Memᴰ·not-nil o) ];
       clauses = λ r m. elim (List·Memᴰ·cases-cons m) [
         | inl e ↦ List·Memᴰ·tail (List·Memᴰ·tail (List·Memᴰ·head e))
         | inr n ↦ elim (List·Memᴰ·cases-cons n) [ inl e ↦ List·Memᴰ·head e | inr o ↦ absurd (List·Memᴰ·not-nil o) ]

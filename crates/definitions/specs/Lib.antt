@@ -17,5 +17,6 @@ pub mod Sheets
 pub mod Trials
 pub mod Refusals
 pub mod WrongTurns
+pub mod TwoWayTrials
 pub mod KeepsTrials
 pub mod DimacsTrials

@@ -1,10 +1,11 @@
--- Document 01, "Words": choices, their closure and its clashes; assignments that satisfy a problem. Assumes nothing.
+-- Document 01, "Words": choices, their closure and its clashes; assignments that satisfy a problem, with document 02, 7/14. Assumes nothing.
+use Prim.Native.Nat.{ℕ}
 use mathlib.Core.Path.{_≡_}
 use mathlib.Core.Logic.{_⊎_}
 use mathlib.Core.Bool.{Bool, true, false}
 use mathlib.Core.List.{List, [], _∷_, _++_}
 use Rattle.definitions.specs.Lists.{_∈_}
-use Rattle.definitions.specs.Words.{Atom, Literal, negate, Clause, Pattern, Rule, Problem, goalAtoms}
+use Rattle.definitions.specs.Words.{Atom, Literal, negate, Clause, Pattern, Rule, TwoWay, forward, RuleLine, oneWay, twoWay, Problem, goalAtoms}
 use Rattle.definitions.specs.Instances.{Substitution, ground, variables, substitutions, Instance, Task}
 
 -- true or false for every atom
@@ -61,7 +62,31 @@ pub data SatisfiesFilling (v : Assignment) (r : Rule) (f : Substitution) : Type 
   headFalse : (p : Pattern) → p ∈ r .heads → Makes v (negate (ground f p)) → SatisfiesFilling v r f
   bodyTrue : (r .body ≡ [] → ⊥) → ((p : Pattern) → p ∈ r .body → Makes v (ground f p)) → SatisfiesFilling v r f
 
--- it satisfies all clauses of a problem and every filling of all its rules
+-- literals of a rule that all hold in a filling
+abbrev pub AllHold : Assignment → Substitution → List Pattern → Type 0
+AllHold v f ps = (p : Pattern) → p ∈ ps → Makes v (ground f p)
+
+-- a body that holds in it; an empty one means false
+abbrev pub BodyHolds : Assignment → Substitution → List Pattern → Type 0
+BodyHolds v f ps = (ps ≡ [] → ⊥) × AllHold v f ps
+
+-- 7/14: a two-way rule "holds as an equivalence" in a filling if, where its kept heads hold, "the rewritten heads all hold exactly if the
+-- body does"
+pub record Equivalence (v : Assignment) (t : TwoWay) (f : Substitution) : Type 0 where
+  pub forth : AllHold v f (t .kept) → AllHold v f (t .rewritten) → BodyHolds v f (t .body)
+  pub back : AllHold v f (t .kept) → BodyHolds v f (t .body) → AllHold v f (t .rewritten)
+
+-- every filling of a rule, with so many constants
+abbrev pub SatisfiesRule : Assignment → ℕ → Rule → Type 0
+SatisfiesRule v n r = (f : Substitution) → f ∈ substitutions n (variables r) → SatisfiesFilling v r f
+
+-- what is asked of an assignment for a line: that every filling of its rule is satisfied, or that the two-way rule holds as an equivalence in
+-- every filling
+abbrev pub SatisfiesLine : Assignment → ℕ → RuleLine → Type 0
+SatisfiesLine v n (oneWay r) = SatisfiesRule v n r
+SatisfiesLine v n (twoWay t) = (f : Substitution) → f ∈ substitutions n (variables (forward t)) → Equivalence v t f
+
+-- it satisfies all clauses of a problem and every filling of all its rules, two-way rules as equivalences
 pub record Satisfies (v : Assignment) (p : Problem) : Type 0 where
   pub clauses : (c : Clause) → c ∈ p .clauses → SatisfiesClause v c
-  pub rules : (r : Rule) → r ∈ p .rules → (f : Substitution) → f ∈ substitutions (p .constants) (variables r) → SatisfiesFilling v r f
+  pub lines : (l : RuleLine) → l ∈ p .ruleLines → SatisfiesLine v (p .constants) l

@@ -1,13 +1,13 @@
 -- Document 01, "Questions asked of a call": 2 to 13, in their order, with 14 between 12 and 13 (document 02, 1/14) and blank columns
--- passed over (3/14), and what is read. Assumes nothing.
-use Prim.Native.Nat.{ℕ, zero, suc, _-_, _%_}
+-- passed over (3/14), and what is read; lines of kind 8 (7/14). Assumes nothing.
+use Prim.Native.Nat.{ℕ, zero, suc, _+_, _-_, _%_}
 use mathlib.Core.Bool.{Bool, true, false, not, _&&_, _||_}
 use mathlib.Core.List.{List, [], _∷_, _++_}
 use lib.Dec.{eqb, leb, ltb}
 use lib.ListN.{length, getD}
 use Rattle.definitions.specs.Lists.{isEmpty, any, all}
-use Rattle.definitions.specs.Bounds.{sheetBytes, longestLine, mostConstants, mostSymbols, mostArguments, mostVariables, mostRules, mostHeads, mostBody, mostClauses, mostLiterals, mostGoals}
-use Rattle.definitions.specs.Words.{Literal, Clause, Term, variable, constant, Pattern, Rule, Problem, goalAtoms}
+use Rattle.definitions.specs.Bounds.{sheetBytes, longestLine, mostConstants, mostSymbols, mostArguments, mostVariables, mostRules, mostHeads, mostBody, mostKept, mostRewritten, mostClauses, mostLiterals, mostGoals}
+use Rattle.definitions.specs.Words.{Literal, Clause, Term, variable, constant, Pattern, Rule, TwoWay, forward, reverse, RuleLine, oneWay, twoWay, Problem, goalAtoms}
 use Rattle.definitions.specs.Instances.{occursIn}
 use Rattle.definitions.specs.Sheet.{Line, lines, Number, Column, number, nothing, fault, decimal}
 
@@ -61,12 +61,16 @@ count q low high (n ∷ ns) = do
   ask q (within low high n)
   yes (record { found = n .size; left = ns })
 
--- 7: kind 1 on the first line, and on later lines 2 to 4 and no lower than the line before; 0 stands for no line before
+-- 7/14: kind 8 is "ranked with" kind 3
+unfoldable pub rank : ℕ → ℕ
+rank k = elim (eqb k 8) [ true ↦ 3 | false ↦ k ]
+
+-- 7: kind 1 on the first line, and on later lines 2 to 4 or 8 and ranked no lower than the line before; 0 stands for no line before
 unfoldable pub kindOf : ℕ → List Number → Asked (Parsed ℕ)
 kindOf zero ns = count 7 1 1 ns
 kindOf (suc before) ns = do
-  k ← count 7 2 4 ns
-  ask 7 (leb (suc before) (k .found))
+  k ← count 7 2 8 ns
+  ask 7 (leb (rank (k .found)) 4 && leb (rank (suc before)) (rank (k .found)))
   yes k
 
 -- 10: an argument in a rule, 1 to 6 for a variable and -k for constant k
@@ -144,6 +148,33 @@ eachLinked before (p ∷ behind) = linked (before ++ behind) p && eachLinked (be
 unfoldable pub connected : Rule → Bool
 connected r = eachLinked [] (r .heads)
 
+-- 7/14: the reverse rule is there "if the body isn't empty and the reverse reading is range restricted and connected"
+unfoldable pub hasReverse : TwoWay → Bool
+hasReverse t = not (isEmpty (t .body)) && restricted (reverse t) && connected (reverse t)
+
+unfoldable pub reverseRules : TwoWay → List Rule
+reverseRules t = elim (hasReverse t) [ true ↦ reverse t ∷ [] | false ↦ [] ]
+
+-- the rules that it "stands for", in the order in which they are numbered; no number is left out
+unfoldable pub standsFor : TwoWay → List Rule
+standsFor t = forward t ∷ reverseRules t
+
+unfoldable pub rulesOf : RuleLine → List Rule
+rulesOf (oneWay r) = r ∷ []
+rulesOf (twoWay t) = standsFor t
+
+-- what a line "counts as" at question 9: a two-way rule "as two rules, with an empty body as one", whether or not the reverse is there
+unfoldable pub bothWays : ℕ → ℕ
+bothWays body = elim (eqb body 0) [ true ↦ 1 | false ↦ 2 ]
+
+unfoldable pub countsAs : RuleLine → ℕ
+countsAs (oneWay r) = 1
+countsAs (twoWay t) = bothWays (length (t .body))
+
+unfoldable pub counted : List RuleLine → ℕ
+counted [] = 0
+counted (l ∷ ls) = countsAs l + counted ls
+
 -- 8 and 11: the constants of a line of kind 1
 unfoldable pub constantsAsked : List Number → Asked ℕ
 constantsAsked ns = do
@@ -181,12 +212,45 @@ ruleBehind constants arities counts = do
   ask 14 (connected r)
   yes r
 
--- 8 to 12 and 14: the rule of a line of kind 3, where so many rules stand already
+-- 8 to 12 and 14: the rule of a line of kind 3, where so many rules are counted already
 unfoldable pub ruleAsked : ℕ → List ℕ → ℕ → List Number → Asked Rule
 ruleAsked constants arities rules ns = do
   counts ← ruleCounts ns
   ask 9 (ltb rules mostRules)
   ruleBehind constants arities counts
+
+-- 8: the three counts of a line of kind 8; "kept plus rewritten, and kept plus body, are at most 3"
+pub record TwoWayCounts : Type 0 where
+  pub kept : ℕ
+  pub rewritten : ℕ
+  pub body : ℕ
+
+unfoldable pub twoWayCounts : List Number → Asked (Parsed TwoWayCounts)
+twoWayCounts ns = do
+  keptCount ← count 8 0 mostKept ns
+  rewrittenCount ← count 8 1 mostRewritten (keptCount .left)
+  bodyCount ← count 8 0 mostBody (rewrittenCount .left)
+  ask 8 (leb (keptCount .found + rewrittenCount .found) mostHeads && leb (keptCount .found + bodyCount .found) mostHeads)
+  yes (record { found = record { kept = keptCount .found; rewritten = rewrittenCount .found; body = bodyCount .found }; left = bodyCount .left })
+
+-- 10 to 12 and 14: the two-way rule that counts and the columns behind them give; 12 and 14 "are asked of the forward rule"
+unfoldable pub twoWayBehind : ℕ → List ℕ → Parsed TwoWayCounts → Asked TwoWay
+twoWayBehind constants arities counts = do
+  kept ← patterns constants arities (counts .found .kept) (counts .left)
+  rewritten ← patterns constants arities (counts .found .rewritten) (kept .left)
+  body ← patterns constants arities (counts .found .body) (rewritten .left)
+  ask 11 (isEmpty (body .left))
+  let t : TwoWay = record { kept = kept .found; rewritten = rewritten .found; body = body .found }
+  ask 12 (restricted (forward t))
+  ask 14 (connected (forward t))
+  yes t
+
+-- 8 to 12 and 14: the two-way rule of a line of kind 8, where so many rules are counted already
+unfoldable pub twoWayAsked : ℕ → List ℕ → ℕ → List Number → Asked TwoWay
+twoWayAsked constants arities rules ns = do
+  counts ← twoWayCounts ns
+  ask 9 (leb (rules + bothWays (counts .found .body)) mostRules)
+  twoWayBehind constants arities counts
 
 -- 8: the count of a line of kind 4
 unfoldable pub clauseCount : List Number → Asked (Parsed ℕ)
@@ -208,16 +272,18 @@ clauseAsked constants arities clauses ns = do
 
 -- what was read, with one line more
 unfoldable pub withConstants : Problem → ℕ → Problem
-withConstants p n = record { constants = n; arities = p .arities; rules = p .rules; clauses = p .clauses }
+withConstants p n = record { constants = n; arities = p .arities; ruleLines = p .ruleLines; rules = p .rules; clauses = p .clauses }
 
 unfoldable pub withSymbol : Problem → ℕ → Problem
-withSymbol p arity = record { constants = p .constants; arities = p .arities ++ (arity ∷ []); rules = p .rules; clauses = p .clauses }
+withSymbol p arity = record { constants = p .constants; arities = p .arities ++ (arity ∷ []); ruleLines = p .ruleLines; rules = p .rules; clauses = p .clauses }
 
-unfoldable pub withRule : Problem → Rule → Problem
-withRule p r = record { constants = p .constants; arities = p .arities; rules = p .rules ++ (r ∷ []); clauses = p .clauses }
+-- a line of kind 3 or 8 adds the rules that it stands for
+unfoldable pub withLine : Problem → RuleLine → Problem
+withLine p l =
+    record { constants = p .constants; arities = p .arities; ruleLines = p .ruleLines ++ (l ∷ []); rules = p .rules ++ rulesOf l; clauses = p .clauses }
 
 unfoldable pub withClause : Problem → Clause → Problem
-withClause p c = record { constants = p .constants; arities = p .arities; rules = p .rules; clauses = p .clauses ++ (c ∷ []) }
+withClause p c = record { constants = p .constants; arities = p .arities; ruleLines = p .ruleLines; rules = p .rules; clauses = p .clauses ++ (c ∷ []) }
 
 -- 8 to 14, of a line of each kind
 unfoldable pub constantsLine : Problem → List Number → Asked Problem
@@ -232,8 +298,13 @@ symbolLine p ns = do
 
 unfoldable pub ruleLine : Problem → List Number → Asked Problem
 ruleLine p ns = do
-  r ← ruleAsked (p .constants) (p .arities) (length (p .rules)) ns
-  yes (withRule p r)
+  r ← ruleAsked (p .constants) (p .arities) (counted (p .ruleLines)) ns
+  yes (withLine p (oneWay r))
+
+unfoldable pub twoWayLine : Problem → List Number → Asked Problem
+twoWayLine p ns = do
+  t ← twoWayAsked (p .constants) (p .arities) (counted (p .ruleLines)) ns
+  yes (withLine p (twoWay t))
 
 unfoldable pub clauseLine : Problem → List Number → Asked Problem
 clauseLine p ns = do
@@ -248,7 +319,10 @@ lineOfKind k p ns =
       | true ↦ constantsLine p ns
       | false ↦ elim (eqb k 2) [
         | true ↦ symbolLine p ns
-        | false ↦ elim (eqb k 3) [ true ↦ ruleLine p ns | false ↦ clauseLine p ns ]
+        | false ↦ elim (eqb k 3) [
+          | true ↦ ruleLine p ns
+          | false ↦ elim (eqb k 8) [ true ↦ twoWayLine p ns | false ↦ clauseLine p ns ]
+        ]
       ]
     ]
 
@@ -286,7 +360,7 @@ readLines d n [] = accepted (d .problem)
 readLines d n (l ∷ ls) = elim (readLine d l) [ no q ↦ refused q n | yes e ↦ readLines e (suc n) ls ]
 
 unfoldable pub emptyDraft : Draft
-emptyDraft = record { before = 0; problem = record { constants = 0; arities = []; rules = []; clauses = [] } }
+emptyDraft = record { before = 0; problem = record { constants = 0; arities = []; ruleLines = []; rules = []; clauses = [] } }
 
 -- 2: at most 16,384 bytes; 3: at least one; then each line from the top
 unfoldable pub read : List ℕ → Reading
@@ -298,5 +372,5 @@ read sheet =
 
 -- names every definition of this module, for a theorem that computes with all of them
 unfoldable pub Questions·all : Unit {0}
-unfolding _>>=_ _>>_ ask inFront columns within count kindOf ruleArgument clauseArgument arguments literal literals patternOf literalOf patterns clauseLiterals inHead restricted isShared linked eachLinked connected constantsAsked arityAsked ruleCounts ruleBehind ruleAsked clauseCount clauseBehind clauseAsked withConstants withSymbol withRule withClause constantsLine symbolLine ruleLine clauseLine lineOfKind goodLength columnsAsked readLine readLines emptyDraft read
+unfolding _>>=_ _>>_ ask inFront columns within count rank kindOf ruleArgument clauseArgument arguments literal literals patternOf literalOf patterns clauseLiterals inHead restricted isShared linked eachLinked connected hasReverse reverseRules standsFor rulesOf bothWays countsAs counted constantsAsked arityAsked ruleCounts ruleBehind ruleAsked twoWayCounts twoWayBehind twoWayAsked clauseCount clauseBehind clauseAsked withConstants withSymbol withLine withClause constantsLine symbolLine ruleLine twoWayLine clauseLine lineOfKind goodLength columnsAsked readLine readLines emptyDraft read
 Questions·all = tt

@@ -128,12 +128,12 @@ sheets =
     record { sheet = text ("  -1   1" ∷ []); question = 7; line = 1 } ∷
     record { sheet = text ("  11   1" ∷ []); question = 7; line = 1 } ∷
     record { sheet = text ("9999   1" ∷ []); question = 7; line = 1 } ∷
-    -- then 2 to 4, and no lower than the line before
+    -- then 2 to 4 or 8, and ranked no lower than the line before
     record { sheet = text ("   1   1" ∷ "   1   1" ∷ []); question = 7; line = 2 } ∷
     record { sheet = text ("   1   1" ∷ "   0   1" ∷ []); question = 7; line = 2 } ∷
     record { sheet = text ("   1   1" ∷ "  -2   1" ∷ []); question = 7; line = 2 } ∷
     record { sheet = text ("   1   1" ∷ "   5   1" ∷ []); question = 7; line = 2 } ∷
-    record { sheet = text ("   1   1" ∷ "   8   1" ∷ []); question = 7; line = 2 } ∷
+    record { sheet = text ("   1   1" ∷ "   7   1" ∷ []); question = 7; line = 2 } ∷
     record { sheet = text ("   1   1" ∷ "   9   1" ∷ []); question = 7; line = 2 } ∷
     record { sheet = text ("   1   1" ∷ "   2   0" ∷ "   1   1" ∷ []); question = 7; line = 3 } ∷
     record { sheet = text (declared ++ ("   3   1   0   1" ∷ "   2   0" ∷ [])); question = 7; line = 5 } ∷

@@ -56,11 +56,12 @@ constantsOf sheet = firstSize (joined (drop 1) (ofKind 1 sheet))
 
 -- a second sheet "keeps" the first one's constants if it has at least as many, its symbols if they stand under the same
 -- numbers with the same arities, its rules and clauses if each of their lines is there, wherever it stands; a line is there if one with
--- the same filled columns is (document 02, 3/14)
+-- the same filled columns is (document 02, 3/14); a line of kind 8 is a rule's (7/14)
 pub record Keeps (first second : List ℕ) : Type 0 where
   pub constants : constantsOf first ≤ constantsOf second
   pub symbols : (more : List Row) × (ofKind 2 second ≡ ofKind 2 first ++ more)
   pub rules : (r : Row) → r ∈ ofKind 3 first → r ∈ ofKind 3 second
+  pub twoWays : (r : Row) → r ∈ ofKind 8 first → r ∈ ofKind 8 second
   pub clauses : (r : Row) → r ∈ ofKind 4 first → r ∈ ofKind 4 second
 
 -- 3/14: two sheets are "filled alike" if all their lines pass questions 4 and 5 and have, line by line, the same filled columns

@@ -1,7 +1,7 @@
--- Document 01, "Words": atoms, literals, rules, and what a sheet says. Assumes nothing.
+-- Document 01, "Words": atoms, literals, rules, and what a sheet says; document 02, 7/14: two-way rules. Assumes nothing.
 use Prim.Native.Nat.{ℕ, suc}
 use mathlib.Core.Bool.{Bool, true, false, not, _&&_, Bool·beq}
-use mathlib.Core.List.{List, [], _∷_, map}
+use mathlib.Core.List.{List, [], _∷_, _++_, map}
 use lib.Dec.{eqb}
 use Rattle.definitions.specs.Lists.{joined, distinct}
 
@@ -54,10 +54,31 @@ pub record Rule : Type 0 where
   pub heads : List Pattern
   pub body : List Pattern
 
--- what a sheet says: the number of constants, the arity of each symbol from 1, the rules, the clauses
+-- 7/14, "two-way rule": heads that are kept, heads that are rewritten, and a body
+pub record TwoWay : Type 0 where
+  pub kept : List Pattern
+  pub rewritten : List Pattern
+  pub body : List Pattern
+
+-- "one forward rule from all heads to the body"; every literal of the two-way rule stands in it, so its fillings are those of this rule
+unfoldable pub forward : TwoWay → Rule
+forward t = record { heads = t .kept ++ t .rewritten; body = t .body }
+
+-- "the reverse reading (kept heads and body give the rewritten heads)"
+unfoldable pub reverse : TwoWay → Rule
+reverse t = record { heads = t .kept ++ t .body; body = t .rewritten }
+
+-- what a line of kind 3 or of kind 8 says
+pub data RuleLine : Type 0 where
+  oneWay : Rule → RuleLine
+  twoWay : TwoWay → RuleLine
+
+-- what a sheet says: the number of constants, the arity of each symbol from 1, the lines of kinds 3 and 8, and the clauses; besides the
+-- lines, the rules that they stand for, which are numbered from 1 and which the search works on
 pub record Problem : Type 0 where
   pub constants : ℕ
   pub arities : List ℕ
+  pub ruleLines : List RuleLine
   pub rules : List Rule
   pub clauses : List Clause
 
@@ -72,5 +93,5 @@ position (b ∷ bs) a = elim (sameAtom b a) [ true ↦ 0 | false ↦ suc (positi
 
 -- names every definition of this module, for a theorem that computes with all of them
 unfoldable pub Words·all : Unit {0}
-unfolding negate plain sameArgs sameAtom sameLiteral goalAtoms position
+unfolding negate plain sameArgs sameAtom sameLiteral forward reverse goalAtoms position
 Words·all = tt

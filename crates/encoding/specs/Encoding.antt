@@ -7,6 +7,7 @@ use lib.Seq.{sets}
 use Rattle.encoding.specs.Lengths.{atomCodes}
 use Rattle.definitions.specs.Lists.{joined}
 use Rattle.definitions.specs.Words.{Atom, Literal, Clause, Problem, goalAtoms, position}
+use Rattle.definitions.specs.Questions.{counted}
 use Rattle.encoding.specs.Signs.{wordOf}
 use Rattle.encoding.specs.Slots.{ruleWords}
 use Rattle.encoding.specs.declared.Sizes.{Sizes}
@@ -48,6 +49,7 @@ sizesOf p =
       constants = p .constants;
       symbols = length (p .arities);
       rules = length (p .rules);
+      counted = counted (p .ruleLines);
       clauses = length (p .clauses);
       atoms = length (goalAtoms (p .clauses));
       literals = length (joined (λ (c : Clause). c) (p .clauses));

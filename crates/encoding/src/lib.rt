@@ -20,6 +20,10 @@ pub const HEADS: usize = 3;
 
 pub const BODY: usize = 2;
 
+pub const KEPT: usize = 2; // heads of a two-way rule, and those that are rewritten
+
+pub const REWRITTEN: usize = 2;
+
 pub const CLAUSES: usize = 64;
 
 pub const CLAUSE_LITERALS: usize = 8;
@@ -55,11 +59,12 @@ pub const SLOTS: usize = 4 * CLAUSE_LITERALS;
 // The word of constant 1 as a term; those below are the variables, and 0 for no term.
 pub const FIRST_CONSTANT: usize = 7;
 
-// How much of each array is in use.
+// How much of each array is in use, and how many rules question 9 counts.
 pub struct Sizes {
     pub constants: usize,
     pub symbols: usize,
     pub rules: usize,
+    pub counted: usize,
     pub clauses: usize,
     pub atoms: usize,
     pub literals: usize,

@@ -17,7 +17,7 @@ use Rattle.encoding.specs.Slots.{ruleWords}
 use Rattle.encoding.specs.Values.{Values, noValues}
 use Rattle.encoding.specs.Encoding.{atomCode, clauseWords, startsFrom, Arrays, emptyIndex, sizesOf, hold}
 use Rattle.encoding.specs.declared.Sizes.{Sizes}
-use Rattle.sheet.specs.LineReads.{SheetRead}
+use Rattle.sheet.specs.LineHolds.{SheetRead}
 use Rattle.sheet.specs.declared.Read.{Read}
 use Rattle.sheet.specs.declared.Read.the-variants as Read
 use Rattle.log.specs.StoreLaws.{sets-start-at}

@@ -8,8 +8,7 @@ use lib.Dec.{leb}
 use lib.ListN.{getD}
 use borrow.Author.Tests.{eq-eqb, ne-eqb, le-leb, lt-leb}
 use Rattle.definitions.specs.Sheet.{Number}
-use Rattle.definitions.specs.Questions.{within}
-use Rattle.theory.specs.Tests.{by-test}
+use Rattle.definitions.specs.Questions.{within, rank}
 use Rattle.encoding.specs.Signs.{numberOf, numbers}
 use Rattle.rows.specs.Rows.{kindHere, rowKind}
 
@@ -39,25 +38,28 @@ module _ {before : ℕ} (n : Number) (h : before ≡ 0) where
 -- on a later line
 kind-later :
     (before : ℕ) (n : Number) → (before ≡ 0 → ⊥)
-    → kindHere before n ≡ elim (within 2 4 n && leb before (n .size)) [ true ↦ n .size | false ↦ 0 ]
+    → kindHere before n ≡ elim (within 2 8 n && (leb (rank (n .size)) 4 && leb (rank before) (rank (n .size)))) [ true ↦ n .size | false ↦ 0 ]
 unfolding kindHere
 kind-later zero n h = absurd (h refl)
 kind-later (suc before) n h = refl
 
-module _ (before : ℕ) {x w : ℕ} (e : x ≡ w) (h : before ≡ 0 → ⊥) where
-  pub kind-falls : x / 2 < before → 0 ≡ kindHere before (numberOf w)
-  unfolding numberOf
-  kind-falls l =
-      let f = lt-leb before (x / 2) l in
-      let k = kind-later before (numberOf w) h in
-      by-test (within 2 4 (numberOf w)) (λ t. cc) (λ t. cc)
-
-  pub later-kind : before ≤ x / 2 → within 2 4 (numberOf w) ≡ true → x / 2 ≡ kindHere before (numberOf w)
-  unfolding numberOf
-  later-kind l t = cc (kind-later before (numberOf w) h, le-leb before (x / 2) l)
-
-  pub no-later-kind : within 2 4 (numberOf w) ≡ false → 0 ≡ kindHere before (numberOf w)
+module _ (before w : ℕ) (h : before ≡ 0 → ⊥) where
+  pub no-later-kind : within 2 8 (numberOf w) ≡ false → 0 ≡ kindHere before (numberOf w)
   no-later-kind t = cc (kind-later before (numberOf w) h)
+
+  -- the ranks of the kind here and of the one before
+  module _ {here least : ℕ} (t : within 2 8 (numberOf w) ≡ true) (a : here ≡ rank (w / 2)) (b : least ≡ rank before) where
+    pub rank-over : 4 < here → 0 ≡ kindHere before (numberOf w)
+    unfolding numberOf
+    rank-over l = cc (kind-later before (numberOf w) h, lt-leb here 4 l)
+
+    pub rank-falls : here ≤ 4 → here < least → 0 ≡ kindHere before (numberOf w)
+    unfolding numberOf
+    rank-falls m l = cc (kind-later before (numberOf w) h, le-leb here 4 m, lt-leb least here l)
+
+    pub later-kind : here ≤ 4 → least ≤ here → w / 2 ≡ kindHere before (numberOf w)
+    unfolding numberOf
+    later-kind m l = cc (kind-later before (numberOf w) h, le-leb here 4 m, le-leb least here l)
 
 -- ── by all the numbers of a row ──
 

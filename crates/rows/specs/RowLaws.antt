@@ -2,14 +2,14 @@
 -- and a row of words is taken off from the front. Assumes nothing.
 use Prim.Native.Nat.{ℕ, zero, suc, _+_, _<_, _≤_}
 use mathlib.Core.Path.{_≡_, refl, _∙_}
-use mathlib.Core.Bool.{true, false}
+use mathlib.Core.Bool.{true, false, _&&_}
 use mathlib.Core.List.{List, [], _∷_, _++_, map-append}
 use native.Mathlib.Omega.{arith}
 use lib.Dec.{eqb, leb}
 use lib.ListN.{length, getD, take, drop, set, length-take, length-map, drop-of-length-le, List·getD-map}
 use lib.Seq.{length-take-le, drop-cons, getD-take, take-suc-set}
 use Rattle.definitions.specs.Sheet.{putByte, lines, Number}
-use Rattle.definitions.specs.Questions.{yes, _>>=_, _>>_, ask, within, count, kindOf}
+use Rattle.definitions.specs.Questions.{yes, _>>=_, _>>_, ask, within, count, kindOf, rank}
 use Rattle.theory.specs.Tests.{by-test, apart}
 use Rattle.theory.specs.AskedLaws.{kind-of-none}
 use Rattle.theory.specs.Limits.{within-between}
@@ -61,8 +61,10 @@ kind-first zero n ns =
     (λ t. let e : n .size ≡ 1 = omega (arith, within-between 1 1 n t) in cc)
     (λ t. cc)
 kind-first (suc before) n ns =
-    by-test (within 2 4 n)
-    (λ t. let e = kindAsked-positive (n .size) ns (omega (arith, within-between 2 4 n t)) in by-test (leb (suc before) (n .size)) (λ u. cc) (λ u. cc))
+    by-test (within 2 8 n)
+    (λ t.
+    let e = kindAsked-positive (n .size) ns (omega (arith, within-between 2 8 n t)) in
+    by-test (leb (rank (n .size)) 4 && leb (rank (suc before)) (rank (n .size))) (λ u. cc) (λ u. cc))
     (λ t. cc)
 
 pub kind-of-row : (before : ℕ) (ns : List Number) → kindOf before ns ≡ kindAsked (rowKind before ns) (drop 1 ns)

@@ -5,7 +5,7 @@ use mathlib.Core.List.{List, [], _∷_}
 use lib.Dec.{eqb, leb, ltb}
 use lib.ListN.{length, take, drop}
 use Rattle.definitions.specs.Sheet.{Line, Number}
-use Rattle.definitions.specs.Questions.{Asked, no, yes, _>>=_, Parsed, within, kindOf, columnsAsked}
+use Rattle.definitions.specs.Questions.{Asked, no, yes, _>>=_, Parsed, within, rank, kindOf, columnsAsked}
 use Rattle.encoding.specs.Signs.{numbers}
 use Rattle.rows.specs.declared.RowRead.{RowRead}
 use Rattle.rows.specs.declared.RowRead.the-variants.{Filled, Fault}
@@ -33,7 +33,7 @@ rowCount Fault = 0
 -- question 7: the kind of a line by its first number, 0 where it is none that may stand here
 unfoldable pub kindHere : ℕ → Number → ℕ
 kindHere zero n = elim (within 1 1 n) [ true ↦ 1 | false ↦ 0 ]
-kindHere (suc before) n = elim (within 2 4 n && leb (suc before) (n .size)) [ true ↦ n .size | false ↦ 0 ]
+kindHere (suc before) n = elim (within 2 8 n && (leb (rank (n .size)) 4 && leb (rank (suc before)) (rank (n .size)))) [ true ↦ n .size | false ↦ 0 ]
 
 -- and by all its numbers
 unfoldable pub rowKind : ℕ → List Number → ℕ

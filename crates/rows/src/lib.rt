@@ -2,7 +2,7 @@
 ghost use mathlib.Core.Path.{_≡_};
 ghost use Prim.Native.Nat.{_+_, _*_, _≤_};
 ghost use lib.ListN.{length, take, drop};
-ghost use Rattle.definitions.specs.Questions.{columns, within, goodLength};
+ghost use Rattle.definitions.specs.Questions.{columns, within, goodLength, rank};
 ghost use Rattle.encoding.specs.Signs.{wordOf, numberOf, numbers};
 ghost use Rattle.rows.specs.Rows.{lineLength, lineAt, kindHere, rowKind, rowAsked, rowCount, startOf, startAsked, startCount};
 use column::ColumnRead;
@@ -104,6 +104,16 @@ pub fn in_range(word: u16, low: usize, high: usize) -> bool
     size <= high
 }
 
+// The rank of a kind: kind 8 is ranked with kind 3.
+fn rank_of(kind: usize) -> usize
+    ensures { λ r. ⌜ r ≡ rank kind ⌝ }
+{
+    if kind == 8 {
+        return 3;
+    }
+    kind
+}
+
 // Question 7: the kind of a line by its first number, 0 where it is none that may stand here.
 fn kind_here(before: usize, word: u16) -> usize
     ensures { λ r. ⌜ r ≡ kindHere before (numberOf word) ⌝ }
@@ -114,14 +124,19 @@ fn kind_here(before: usize, word: u16) -> usize
         }
         return 0;
     }
-    let kind = encoding::wide(word) / 2;
-    if kind < before {
+    if !in_range(word, 2, 8) {
         return 0;
     }
-    if in_range(word, 2, 4) {
-        return kind;
+    let kind = encoding::wide(word) / 2;
+    let here = rank_of(kind);
+    let least = rank_of(before);
+    if 4 < here {
+        return 0;
     }
-    0
+    if here < least {
+        return 0;
+    }
+    kind
 }
 
 // The same by all its numbers: a line of blanks has none, and so no kind.

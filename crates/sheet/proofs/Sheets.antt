@@ -3,7 +3,7 @@
 use Prim.Native.Nat.{ℕ, suc, _+_, _-_, _<_, _≤_}
 use mathlib.Core.Path.{_≡_, refl, sym, ap, _∙_}
 use mathlib.Core.Logic.{inl, inr}
-use mathlib.Core.Bool.{true, false}
+use mathlib.Core.Bool.{true}
 use mathlib.Core.List.{List, [], _∷_}
 use native.Mathlib.Omega.{arith}
 use native.Mathlib.Numerals.{add-one}
@@ -11,37 +11,29 @@ use lib.Dec.{ltb}
 use lib.ListN.{length, getD, drop, set, length-drop, drop-of-length-le}
 use lib.Seq.{sets, set-set, take-all, drop-cons, drop-drop}
 use borrow.Author.Tests.{ltb-true, ltb-false, le-leb, lt-leb}
-use Rattle.definitions.specs.Lists.{isEmpty, joined, distinct}
+use Rattle.definitions.specs.Lists.{joined, distinct}
 use Rattle.definitions.specs.Words.{Clause, Problem, goalAtoms}
 use Rattle.definitions.specs.Sheet.{Line, lines}
-use Rattle.definitions.specs.Questions.{Asked, no, yes, Parsed, columnsAsked, Draft, readLine, refused, accepted, readLines, emptyDraft, read}
+use Rattle.definitions.specs.Questions.{Asked, no, yes, Parsed, counted, columnsAsked, Draft, readLine, refused, accepted, readLines, emptyDraft, read}
 use Rattle.theory.specs.Tests.{by-test, apart}
+use Rattle.theory.specs.ListLaws.{none-empty, some-full}
 use Rattle.theory.specs.AskedLaws.{bind-yes, ask-yes}
 use Rattle.theory.specs.Limits.{line-begun}
 use Rattle.encoding.specs.Signs.{numbers}
 use Rattle.rows.specs.Rows.{lineLength, lineAt, startOf, startAsked}
 use Rattle.rows.specs.RowLaws.{lineLength-le, lines-none, lines-ended, lines-unended}
 use Rattle.encoding.specs.Encoding.{startsFrom, indexFrom, emptyIndex, sizesOf, Arrays, arrays, hold}
-use Rattle.sheet.specs.LineReads.{Ready, LineHeld, SheetRead}
+use Rattle.lines.specs.LineReads.{Ready}
+use Rattle.sheet.specs.LineHolds.{LineHeld, SheetRead}
 use Rattle.sheet.specs.SheetLaws.{Started, draft-ready, start-refused, LineEnds, line-ends}
 use Rattle.encoding.specs.declared.Sizes.{Sizes}
 use Rattle.rows.specs.declared.LineStart.{LineStart}
 use Rattle.rows.specs.declared.LineStart.the-variants.{No as NoStart, Kind}
 use Rattle.sheet.specs.declared.Read.the-variants.{Accepted}
-use Rattle.sheet.specs.declared.LineRead.{LineRead}
-use Rattle.sheet.specs.declared.LineRead.the-variants.{No, Yes}
+use Rattle.lines.specs.declared.LineRead.{LineRead}
+use Rattle.lines.specs.declared.LineRead.the-variants.{No, Yes}
 
 -- ── the tests before the loop ──
-
-empty-none : (sheet : List ℕ) → length sheet ≡ 0 → isEmpty sheet ≡ true
-unfolding isEmpty
-empty-none [] e = refl
-empty-none (b ∷ bs) e = apart (omega arith)
-
-some-bytes : (sheet : List ℕ) → (length sheet ≡ 0 → ⊥) → isEmpty sheet ≡ false
-unfolding isEmpty
-some-bytes [] n = absurd (n refl)
-some-bytes (b ∷ bs) n = refl
 
 module _ (sheet : List ℕ) where
   pub read-long : 16384 < length sheet → read sheet ≡ refused 2 0
@@ -50,11 +42,11 @@ module _ (sheet : List ℕ) where
 
   pub read-empty : length sheet ≤ 16384 → length sheet ≡ 0 → read sheet ≡ refused 3 0
   unfolding read
-  read-empty h e = cc (le-leb (length sheet) 16384 h, empty-none sheet e)
+  read-empty h e = cc (le-leb (length sheet) 16384 h, none-empty sheet e)
 
   read-all : length sheet ≤ 16384 → (length sheet ≡ 0 → ⊥) → read sheet ≡ readLines emptyDraft 1 (lines sheet)
   unfolding read
-  read-all h n = cc (le-leb (length sheet) 16384 h, some-bytes sheet n)
+  read-all h n = cc (le-leb (length sheet) 16384 h, some-full sheet n)
 
 -- ── the line at a place of the sheet ──
 
@@ -122,8 +114,8 @@ pub record ReadUpTo (sheet : List ℕ) (start held : Arrays) (s : Sizes) (before
 module _ {sheet arities rules : List ℕ} (starts : List ℕ) {literals table index : List ℕ} where
   pub reached-start : length sheet ≤ 16384 → (length sheet ≡ 0 → ⊥) → index ≡ emptyIndex → length arities ≡ 16
       → ReadUpTo sheet (arrays arities rules (set starts 0 0) literals table index) (arrays arities rules (set starts 0 0) literals table index)
-      (record { constants = 0; symbols = 0; rules = 0; clauses = 0; atoms = 0; literals = 0 }) 0 0 1
-  unfolding sizesOf emptyDraft joined goalAtoms distinct
+      (record { constants = 0; symbols = 0; rules = 0; counted = 0; clauses = 0; atoms = 0; literals = 0 }) 0 0 1
+  unfolding sizesOf emptyDraft joined goalAtoms distinct counted
   reached-start h n e w =
       record {
         short = h;

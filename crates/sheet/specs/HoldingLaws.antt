@@ -1,4 +1,4 @@
--- The arrays hold a problem, and with one line more they hold the larger problem: a symbol, a rule, or a clause. Assumes nothing.
+-- The arrays hold a problem, and with one line more they hold the larger problem: a symbol, a line's rules, or a clause. Assumes nothing.
 use Prim.Native.Nat.{ℕ, _+_, _*_}
 use mathlib.Core.Path.{_≡_, refl, sym}
 use mathlib.Core.List.{List, [], _∷_, _++_, append-nil}
@@ -6,9 +6,9 @@ use native.Mathlib.Omega.{arith}
 use lib.ListN.{length, set, length-append}
 use lib.Seq.{sets}
 use Rattle.definitions.specs.Lists.{joined}
-use Rattle.definitions.specs.Words.{Clause, Rule, Problem}
-use Rattle.definitions.specs.Questions.{withSymbol, withRule, withClause}
-use Rattle.theory.specs.TableLaws.{joined-more}
+use Rattle.definitions.specs.Words.{Clause, RuleLine, Problem}
+use Rattle.definitions.specs.Questions.{withSymbol, withLine, withClause, rulesOf}
+use Rattle.theory.specs.ListLaws.{joined-append}
 use Rattle.column.specs.Sets.{sets-more}
 use Rattle.encoding.specs.Slots.{ruleWords}
 use Rattle.encoding.specs.Encoding.{startsFrom, Arrays, arrays, hold}
@@ -43,11 +43,11 @@ module _ (p : Problem) (before : Arrays) where
   unfolding hold withSymbol
   symbol-held n = sets-more (before .arities) (p .arities) (n ∷ []) (length (p .arities)) refl
 
-  pub rule-held : (r : Rule) → sets (hold p before .rules) (22 * length (p .rules)) (ruleWords r) ≡ hold (withRule p r) before .rules
-  unfolding hold withRule
-  rule-held r =
-      rw (joined-more ruleWords (p .rules) r)
-      (sets-more (before .rules) (joined ruleWords (p .rules)) (ruleWords r) (22 * length (p .rules)) (sym (rules-length (p .rules))))
+  pub rules-held : (l : RuleLine) → sets (hold p before .rules) (22 * length (p .rules)) (joined ruleWords (rulesOf l)) ≡ hold (withLine p l) before .rules
+  unfolding hold withLine
+  rules-held l =
+      rw (joined-append ruleWords (p .rules) (rulesOf l))
+      (sets-more (before .rules) (joined ruleWords (p .rules)) (joined ruleWords (rulesOf l)) (22 * length (p .rules)) (sym (rules-length (p .rules))))
 
   pub starts-held :
       (c : Clause)
@@ -72,12 +72,12 @@ module _ (p : Problem) (before : Arrays) where
   unfolding hold withSymbol
   hold-symbol n = arrays-ext (symbol-held p before n) refl refl refl refl refl
 
-  pub hold-rule :
-      (r : Rule)
-      → arrays (hold p before .arities) (sets (hold p before .rules) (22 * length (p .rules)) (ruleWords r)) (hold p before .starts) (hold p before .literals) (hold p before .table) (hold p before .index)
-      ≡ hold (withRule p r) before
-  unfolding hold withRule
-  hold-rule r = arrays-ext refl (rule-held p before r) refl refl refl refl
+  pub hold-line :
+      (l : RuleLine)
+      → arrays (hold p before .arities) (sets (hold p before .rules) (22 * length (p .rules)) (joined ruleWords (rulesOf l))) (hold p before .starts) (hold p before .literals) (hold p before .table) (hold p before .index)
+      ≡ hold (withLine p l) before
+  unfolding hold withLine
+  hold-line l = arrays-ext refl (rules-held p before l) refl refl refl refl
 
   -- with what the three arrays that a clause enters have come to
   pub hold-clause :

@@ -1,3 +1,3 @@
 pub mod HoldingLaws
-pub mod LineReads
+pub mod LineHolds
 pub mod SheetLaws

@@ -8,12 +8,13 @@ use native.Mathlib.Omega.{arith}
 use lib.Dec.{eqb, leb}
 use lib.ListN.{length, set, take, length-append}
 use Rattle.definitions.specs.Lists.{_∈_, joined, distinct}
-use Rattle.definitions.specs.Words.{Literal, Clause, Rule, Problem, goalAtoms}
+use Rattle.definitions.specs.Words.{Literal, Clause, RuleLine, oneWay, twoWay, Problem, goalAtoms}
 use Rattle.definitions.specs.Sheet.{Line, Number}
-use Rattle.definitions.specs.Questions.{Asked, no, yes, _>>=_, _>>_, ask, constantsAsked, arityAsked, ruleAsked, clauseAsked, withConstants, withSymbol, withRule, withClause, constantsLine, symbolLine, ruleLine, clauseLine, lineOfKind, columnsAsked, Draft, readLine, emptyDraft}
+use Rattle.definitions.specs.Questions.{Asked, no, yes, _>>=_, _>>_, ask, constantsAsked, arityAsked, ruleAsked, twoWayAsked, clauseAsked, counted, rulesOf, withConstants, withSymbol, withLine, withClause, constantsLine, symbolLine, ruleLine, twoWayLine, clauseLine, lineOfKind, columnsAsked, Draft, readLine, emptyDraft}
 use Rattle.theory.specs.Tests.{by-test}
 use Rattle.theory.specs.ListLaws.{joined-append, joined-length}
 use Rattle.theory.specs.AskedLaws.{by-asked}
+use Rattle.theory.specs.TwoWayLaws.{counted-more, rules-counted, FromLines}
 use Rattle.theory.specs.Limits.{LiteralLimits, Limits, arity-limit, clause-asked-limits, Begun}
 use Rattle.column.specs.Sets.{sets-taken}
 use Rattle.rows.specs.Rows.{startOf}
@@ -21,12 +22,13 @@ use Rattle.encoding.specs.Slots.{asPattern, slotWords}
 use Rattle.literals.specs.Entering.{Entered}
 use Rattle.encoding.specs.Encoding.{Arrays, emptyIndex, sizesOf, hold}
 use Rattle.literals.specs.HeldClauseLaws.{enteredOf, hold-index-within, clause-held}
-use Rattle.sheet.specs.HoldingLaws.{hold-symbol, hold-rule, hold-clause}
+use Rattle.sheet.specs.HoldingLaws.{hold-symbol, hold-line, hold-clause}
 use Rattle.encoding.specs.HoldLaws.{Encodable, limits-encodable}
-use Rattle.sheet.specs.LineReads.{moreConstants, moreSymbols, moreRules, moreClauses, clauseEntered, clauseAnswer, Ready, withArities, withRules, withEntered, ConstantsHeld, SymbolHeld, RuleHeld, ClauseEntersHeld, LineHeld}
+use Rattle.lines.specs.LineReads.{moreConstants, moreSymbols, moreRules, moreClauses, clauseEntered, clauseAnswer, Ready}
+use Rattle.sheet.specs.LineHolds.{withArities, withRules, withEntered, ConstantsHeld, SymbolHeld, RuleHeld, ClauseEntersHeld, LineHeld}
 use Rattle.encoding.specs.declared.Sizes.{Sizes}
-use Rattle.sheet.specs.declared.LineRead.{LineRead}
-use Rattle.sheet.specs.declared.LineRead.the-variants.{No, Yes}
+use Rattle.lines.specs.declared.LineRead.{LineRead}
+use Rattle.lines.specs.declared.LineRead.the-variants.{No, Yes}
 
 literals-more : (p : Problem) (c : Clause) → length (joined (λ (x : Clause). x) (withClause p c .clauses)) ≡ length (joined (λ (x : Clause). x) (p .clauses)) + length c
 unfolding withClause joined
@@ -44,14 +46,15 @@ module _ (before : Arrays) (empty : before .index ≡ emptyIndex) (wide : length
   unfolding hold
   held-arities p h = sets-taken (before .arities) (p .arities) (omega arith)
 
-  limits-ready : (p : Problem) → Limits p → Ready (sizesOf p) (hold p before .arities) (hold p before .index)
+  limits-ready : (p : Problem) → Limits p → FromLines p → Ready (sizesOf p) (hold p before .arities) (hold p before .index)
   unfolding sizesOf
-  limits-ready p l =
+  limits-ready p l f =
       record {
         constants = l .constants;
         symbols = l .symbols;
         arity = λ i. rw (held-arities p (l .symbols)) (arity-limit p l i);
-        rules = l .rules;
+        rules = omega (arith, ap length (f .rules), rules-counted (p .ruleLines));
+        counted = f .few;
         clauses = l .clauses;
         atoms = l .goals;
         literals = joined-length (λ (c : Clause). c) 8 (p .clauses) (λ c m. l .eachClause c m .literals);
@@ -59,13 +62,14 @@ module _ (before : Arrays) (empty : before .index ≡ emptyIndex) (wide : length
       }
 
   empty-ready : Ready (sizesOf (emptyDraft .problem)) (hold (emptyDraft .problem) before .arities) (hold (emptyDraft .problem) before .index)
-  unfolding sizesOf emptyDraft joined goalAtoms distinct
+  unfolding sizesOf emptyDraft joined goalAtoms distinct counted
   empty-ready =
       record {
         constants = omega arith;
         symbols = omega arith;
         arity = λ i. omega arith;
         rules = omega arith;
+        counted = omega arith;
         clauses = omega arith;
         atoms = omega arith;
         literals = omega arith;
@@ -73,7 +77,7 @@ module _ (before : Arrays) (empty : before .index ≡ emptyIndex) (wide : length
       }
 
   pub draft-ready : (d : Draft) → Started d → Ready (sizesOf (d .problem)) (hold (d .problem) before .arities) (hold (d .problem) before .index)
-  draft-ready d (inr b) = limits-ready (d .problem) (b .limits)
+  draft-ready d (inr b) = limits-ready (d .problem) (b .limits) (b .fromLines)
   draft-ready d (inl q) =
       subst (λ (e : Draft). Ready (sizesOf (e .problem)) (hold (e .problem) before .arities) (hold (e .problem) before .index)) (sym q) empty-ready
 
@@ -101,23 +105,24 @@ module _ (before : Arrays) (empty : before .index ≡ emptyIndex) (wide : length
   symbol-next p (yes n) r after h = (h .0 ∙ ap (λ k. Yes (with-symbols k)) (sym (length-append (p .arities) (n ∷ []))), h .1 ∙ hold-symbol p before n)
     where
       with-symbols : ℕ → Sizes
-      with-symbols k = record { constants = p .constants; symbols = k; rules = length (p .rules); clauses = length (p .clauses); atoms = length (goalAtoms (p .clauses)); literals = length (joined (λ (c : Clause). c) (p .clauses)) }
+      with-symbols k = record { constants = p .constants; symbols = k; rules = length (p .rules); counted = counted (p .ruleLines); clauses = length (p .clauses); atoms = length (goalAtoms (p .clauses)); literals = length (joined (λ (c : Clause). c) (p .clauses)) }
 
-  rule-next : (p : Problem) (m : Asked Rule) (r : LineRead) (after : Arrays) → RuleHeld m r (sizesOf p) (hold p before) after
-      → LineNext (m >>= λ x. yes (withRule p x)) r after
-  unfolding _>>=_ sizesOf moreRules withRule withRules
-  rule-next p (no q) r after h = h
-  rule-next p (yes x) r after h = (h .0 ∙ ap (λ k. Yes (with-rules k)) (sym (length-append (p .rules) (x ∷ []))), h .1 ∙ hold-rule p before x)
-    where
-      with-rules : ℕ → Sizes
-      with-rules k = record { constants = p .constants; symbols = length (p .arities); rules = k; clauses = length (p .clauses); atoms = length (goalAtoms (p .clauses)); literals = length (joined (λ (c : Clause). c) (p .clauses)) }
+  line-sizes : (p : Problem) (l : RuleLine) → moreRules l (sizesOf p) ≡ sizesOf (withLine p l)
+  unfolding moreRules sizesOf withLine
+  line-sizes p l = cc (length-append (p .rules) (rulesOf l), counted-more (p .ruleLines) l)
+
+  rule-next : {A : Type 0} (line : A → RuleLine) (p : Problem) (m : Asked A) (r : LineRead) (after : Arrays) → RuleHeld line m r (sizesOf p) (hold p before) after
+      → LineNext (m >>= λ x. yes (withLine p (line x))) r after
+  unfolding _>>=_ sizesOf withRules
+  rule-next line p (no q) r after h = h
+  rule-next line p (yes x) r after h = (h .0 ∙ ap Yes (line-sizes p (line x)), h .1 ∙ hold-line p before (line x))
 
   clause-sizes : (p : Problem) (c : Clause) → moreClauses (enteredOf (withClause p c) before) (sizesOf p) ≡ sizesOf (withClause p c)
   unfolding moreClauses sizesOf withClause
   clause-sizes p c = ap with-clauses (sym (length-append (p .clauses) (c ∷ [])))
     where
       with-clauses : ℕ → Sizes
-      with-clauses k = record { constants = p .constants; symbols = length (p .arities); rules = length (p .rules); clauses = k; atoms = length (goalAtoms (p .clauses ++ (c ∷ []))); literals = length (joined (λ (x : Clause). x) (p .clauses ++ (c ∷ []))) }
+      with-clauses k = record { constants = p .constants; symbols = length (p .arities); rules = length (p .rules); counted = counted (p .ruleLines); clauses = k; atoms = length (goalAtoms (p .clauses ++ (c ∷ []))); literals = length (joined (λ (x : Clause). x) (p .clauses ++ (c ∷ []))) }
 
   -- the answer and the arrays once the clause has entered
   entered-next : (p : Problem) (c : Clause) (e : Entered) → e ≡ enteredOf (withClause p c) before → (r : LineRead) (after : Arrays) (ends : ℕ)
@@ -155,7 +160,7 @@ module _ (before : Arrays) (empty : before .index ≡ emptyIndex) (wide : length
 
   kind-next : (d : Draft) → Started d → (k : ℕ) (ns : List Number) (r : LineRead) (after : Arrays)
       → LineHeld k ns r (sizesOf (d .problem)) (hold (d .problem) before) after → LineNext (lineOfKind k (d .problem) ns) r after
-  unfolding lineOfKind constantsLine symbolLine ruleLine clauseLine sizesOf
+  unfolding lineOfKind constantsLine symbolLine ruleLine twoWayLine clauseLine sizesOf
   kind-next d i k ns r after h =
       by-test (eqb k 1)
       (λ one. rw (one, lineOfKind) (constants-next p (constantsAsked ns) r after (rw (one, LineHeld) at h)))
@@ -164,12 +169,16 @@ module _ (before : Arrays) (empty : before .index ≡ emptyIndex) (wide : length
       (λ two. by-test (eqb k 3)
       (λ three.
       rw (one, two, three, lineOfKind)
-      (rule-next p (ruleAsked (p .constants) (p .arities) (length (p .rules)) ns) r after (rw (one, two, three, held, LineHeld) at h)))
-      (λ three.
-      rw (one, two, three, lineOfKind)
+      (rule-next oneWay p (ruleAsked (p .constants) (p .arities) (counted (p .ruleLines)) ns) r after (rw (one, two, three, held, LineHeld) at h)))
+      (λ three. by-test (eqb k 8)
+      (λ eight.
+      rw (one, two, three, eight, lineOfKind)
+      (rule-next twoWay p (twoWayAsked (p .constants) (p .arities) (counted (p .ruleLines)) ns) r after (rw (one, two, three, eight, held, LineHeld) at h)))
+      (λ eight.
+      rw (one, two, three, eight, lineOfKind)
       (clause-next p (started-encodable d i) (clauseAsked (p .constants) (p .arities) (length (p .clauses)) ns)
       (λ c e. clause-asked-limits p ns c e .eachLiteral)
-      r after (rw (one, two, three, held, LineHeld) at h)))))
+      r after (rw (one, two, three, eight, held, LineHeld) at h))))))
     where
       p : Problem
       p = d .problem

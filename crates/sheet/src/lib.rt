@@ -1,8 +1,7 @@
 // A sheet's bytes to the problem's arrays, question by question.
-mod lines; // lines.rt: a line of each kind
-
 use definitions::Refusal;
 use encoding::Sizes;
+use lines::LineRead;
 use rows::LineStart;
 ghost use mathlib.Core.Path.{_≡_};
 ghost use Prim.Native.Nat.{_≤_};
@@ -11,7 +10,8 @@ ghost use Rattle.definitions.specs.Questions.{read};
 ghost use Rattle.encoding.specs.Signs.{numbers};
 ghost use Rattle.encoding.specs.Encoding.{emptyIndex};
 ghost use Rattle.encoding.specs.Lent.{Leaves, lentArrays};
-ghost use Rattle.sheet.specs.LineReads.{Ready, LineHeld, SheetRead};
+ghost use Rattle.lines.specs.LineReads.{Ready};
+ghost use Rattle.sheet.specs.LineHolds.{LineHeld, SheetRead};
 use encoding::ATOMS;
 use encoding::CODES;
 use encoding::COLUMNS;
@@ -28,12 +28,6 @@ pub const SHEET_BYTES: usize = 16384;
 pub enum Read {
     Refused(Refusal),
     Accepted(Sizes),
-}
-
-// A line: the question that is answered no, or the sizes with the line.
-pub enum LineRead {
-    No(u8),
-    Yes(Sizes),
 }
 
 // A line of kind k, from its columns behind the kind.
@@ -60,7 +54,10 @@ fn line_of_kind(
         return lines::symbol_line(row, n, s, arities);
     }
     if kind == 3 {
-        return lines::rule_line(row, n, s, arities, slots, rules);
+        return lines::one_way::rule_line(row, n, s, arities, slots, rules);
+    }
+    if kind == 8 {
+        return lines::two_way::two_way_line(row, n, s, arities, slots, rules);
     }
     lines::clause_line(row, n, s, arities, slots, starts, literals, table, index)
 }
@@ -93,6 +90,7 @@ pub fn read_sheet(
         constants: 0,
         symbols: 0,
         rules: 0,
+        counted: 0,
         clauses: 0,
         atoms: 0,
         literals: 0,

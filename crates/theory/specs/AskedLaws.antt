@@ -2,17 +2,19 @@
 -- Assumes nothing.
 use Prim.Native.Nat.{ℕ, zero, suc, _-_, _%_, _≤_, _<_}
 use mathlib.Core.Path.{_≡_, refl, ap}
-use mathlib.Core.Bool.{Bool, true, false, not, _&&_}
+use mathlib.Core.Logic.{_⊎_, inl, inr}
+use mathlib.Core.Bool.{Bool, true, false, not, _&&_, _||_}
 use mathlib.Core.List.{List, [], _∷_, _++_}
 use native.Mathlib.Omega.{arith}
-use lib.Dec.{leb}
-use lib.ListN.{length, length-append, getD, List·getD-append}
-use borrow.Author.Tests.{eqb-true, leb-true, le-leb, not-true}
+use lib.Dec.{eqb, leb}
+use lib.ListN.{length, length-append, getD, drop, List·getD-append}
+use borrow.Author.Tests.{eqb-true, eqb-false, leb-true, le-leb, not-true}
 use Rattle.definitions.specs.Lists.{isEmpty}
 use Rattle.definitions.specs.Bounds.{sheetBytes, longestLine}
-use Rattle.definitions.specs.Words.{constant, Rule, Clause, Problem}
+use Rattle.definitions.specs.Words.{constant, Rule, TwoWay, RuleLine, oneWay, twoWay, Clause, Problem}
 use Rattle.definitions.specs.Sheet.{lines, Number}
-use Rattle.definitions.specs.Questions.{Asked, no, yes, _>>=_, _>>_, ask, Parsed, within, count, kindOf, ruleArgument, clauseArgument, arguments, literal, literals, patternOf, literalOf, patterns, clauseLiterals, ruleCounts, ruleBehind, clauseCount, clauseBehind, goodLength, accepted, readLines, emptyDraft, read}
+use Rattle.definitions.specs.Questions.{Asked, no, yes, _>>=_, _>>_, ask, Parsed, within, count, rank, kindOf, ruleArgument, clauseArgument, arguments, literal, literals, patternOf, literalOf, patterns, clauseLiterals, ruleCounts, ruleBehind, twoWayCounts, twoWayBehind, clauseCount, clauseBehind, goodLength, accepted, readLines, emptyDraft, read}
+use Rattle.definitions.specs.Sheets.{Row, isKind}
 use Rattle.theory.specs.Tests.{by-test, apart, and-left, and-right, and-intro}
 
 -- ── every question of an accepted chain is answered yes ──
@@ -62,6 +64,19 @@ good-length n good =
     let between = and-left (leb 4 n && leb n longestLine) _ good in
     let whole = and-right (leb 4 n && leb n longestLine) _ good in
     (leb-true 4 n (and-left (leb 4 n) _ between), leb-true n longestLine (and-right (leb 4 n) _ between), eqb-true (n % 4) 0 whole)
+
+-- ranks: 3 for kind 8, the kind for any other
+pub rank-8 : (k : ℕ) → ((k ≡ 8) × (rank k ≡ 3)) ⊎ ((k ≡ 8 → ⊥) × (rank k ≡ k))
+unfolding rank
+rank-8 k = by-test (eqb k 8) (λ e. inl (eqb-true k 8 e, rw (e, rank))) (λ e. inr (eqb-false k 8 e, rw (e, rank)))
+
+-- a line of kind 2 follows none of a later kind
+pub early-kind : (before k : ℕ) → rank before ≤ rank k → k ≤ 2 → before ≤ 2
+early-kind before k h l =
+    elim (rank-8 before) [
+      | inl x ↦ elim (rank-8 k) [ inl y ↦ omega arith | inr y ↦ absurd (omega (arith, x .1, y .1)) ]
+      | inr x ↦ elim (rank-8 k) [ inl y ↦ omega arith | inr y ↦ omega (arith, x .1, y .1) ]
+    ]
 
 -- no column is no kind
 pub kind-of-none : (before : ℕ) → kindOf before [] ≡ no 7
@@ -175,24 +190,54 @@ clauseArgument-accepts c d h n =
     (and-accepts (not (n .negative) && leb 1 (n .size)) (leb (n .size) c) (leb (n .size) d) (leb-accepts (n .size) c d h))
     (λ t a e. e)
 
--- the rule and the clause of the columns behind the kind, without question 9
+-- the rule, the two-way rule and the clause of the columns behind the kind, without question 9
 unfoldable pub readRule : ℕ → List ℕ → List Number → Asked Rule
 readRule constants arities ns = ruleCounts ns >>= ruleBehind constants arities
+
+unfoldable pub readTwoWay : ℕ → List ℕ → List Number → Asked TwoWay
+readTwoWay constants arities ns = twoWayCounts ns >>= twoWayBehind constants arities
+
+-- a row of kind 3 or 8, its kind included
+unfoldable pub isRuleRow : Row → Bool
+isRuleRow r = isKind 3 r || isKind 8 r
+
+unfoldable pub readRuleLine : ℕ → List ℕ → Row → Asked RuleLine
+readRuleLine constants arities row =
+    elim (isKind 3 row) [
+      | true ↦ readRule constants arities (drop 1 row) >>= λ r. yes (oneWay r)
+      | false ↦ readTwoWay constants arities (drop 1 row) >>= λ t. yes (twoWay t)
+    ]
 
 unfoldable pub readClause : ℕ → List ℕ → List Number → Asked Clause
 readClause constants arities ns = clauseCount ns >>= clauseBehind constants arities
 
 -- a line reads the same with more constants and with more symbols behind those that there are
 module _ (constants more : ℕ) (arities others : List ℕ) (h : constants ≤ more) where
+  patterns-accepts : (k : ℕ) (ns : List Number) → Accepts (patterns constants arities k ns) (patterns more (arities ++ others) k ns)
+  unfolding patterns
+  patterns-accepts = literals-accepts (ruleArgument constants) (ruleArgument more) (ruleArgument-accepts constants more h) patternOf arities others
+
   pub readRule-accepts : (ns : List Number) → Accepts (readRule constants arities ns) (readRule more (arities ++ others) ns)
   unfolding readRule ruleBehind
   readRule-accepts ns =
       bind-accepts (λ w e. e)
-      (λ counts. bind-accepts (walk (counts .found .heads) (counts .left))
-      (λ heads. bind-accepts (walk (counts .found .body) (heads .left)) (λ body r e. e)))
-    where
-      walk : (k : ℕ) (ns : List Number) → Accepts (patterns constants arities k ns) (patterns more (arities ++ others) k ns)
-      walk = unfold patterns in literals-accepts (ruleArgument constants) (ruleArgument more) (ruleArgument-accepts constants more h) patternOf arities others
+      (λ counts. bind-accepts (patterns-accepts (counts .found .heads) (counts .left))
+      (λ heads. bind-accepts (patterns-accepts (counts .found .body) (heads .left)) (λ body r e. e)))
+
+  pub readTwoWay-accepts : (ns : List Number) → Accepts (readTwoWay constants arities ns) (readTwoWay more (arities ++ others) ns)
+  unfolding readTwoWay twoWayBehind
+  readTwoWay-accepts ns =
+      bind-accepts (λ w e. e)
+      (λ counts. bind-accepts (patterns-accepts (counts .found .kept) (counts .left))
+      (λ kept. bind-accepts (patterns-accepts (counts .found .rewritten) (kept .left))
+      (λ rewritten. bind-accepts (patterns-accepts (counts .found .body) (rewritten .left)) (λ body t e. e))))
+
+  pub readRuleLine-accepts : (row : Row) → Accepts (readRuleLine constants arities row) (readRuleLine more (arities ++ others) row)
+  unfolding readRuleLine
+  readRuleLine-accepts row =
+      by-test (isKind 3 row)
+      (λ k. rw (k, readRuleLine) (bind-accepts (readRule-accepts (drop 1 row)) (λ r l e. e)))
+      (λ k. rw (k, readRuleLine) (bind-accepts (readTwoWay-accepts (drop 1 row)) (λ t l e. e)))
 
   pub readClause-accepts : (ns : List Number) → Accepts (readClause constants arities ns) (readClause more (arities ++ others) ns)
   unfolding readClause clauseBehind

@@ -14,6 +14,7 @@ use Rattle.definitions.specs.declared.Verdict.the-variants.{Unsat, Unknown}
 use Rattle.theory.specs.WordLaws.{makes-not-both, goal-of, goal-from}
 use Rattle.theory.specs.PlaceLaws.{getElem-at}
 use Rattle.theory.specs.InstanceLaws.{substitutions-more, Renumbered, every-filling, only-fillings, filled-rule, filled-heads, filled-body}
+use Rattle.theory.specs.TwoWayLaws.{FromLines, lines-rules}
 use Rattle.theory.specs.Choices.{unsat-means}
 use Rattle.theory.specs.Unknown.{unknown-means}
 
@@ -108,10 +109,10 @@ map-nil : {A B : Type 0} (g : A → B) (l : List A) → map g l ≡ [] → l ≡
 map-nil g [] e = refl
 map-nil g (x ∷ xs) e = absurd (cons≢nil e)
 
--- an assignment that satisfies every filling respects every instance
-pub satisfies-respects : (v : Assignment) (p : Problem) → Satisfies v p → Respects v (taskOf p)
+-- an assignment that satisfies every filling, two-way rules as equivalences, respects every instance
+pub satisfies-respects : (v : Assignment) (p : Problem) → FromLines p → Satisfies v p → Respects v (taskOf p)
 unfolding taskOf
-satisfies-respects v p w = record { clauses = w .clauses; instances = λ i m hs. respected i (only-fillings p i m) hs }
+satisfies-respects v p fromLines w = record { clauses = w .clauses; instances = λ i m hs. respected i (only-fillings p i m) hs }
   where
     filled : (i : Instance) (f : FillingOf p i) → SatisfiesFilling v (f .rule) (f .filling) → ((h : Literal) → h ∈ i .heads → Makes v h)
         → (i .body ≡ [] → ⊥) × ((l : Literal) → l ∈ i .body → Makes v l)
@@ -124,13 +125,13 @@ satisfies-respects v p w = record { clauses = w .clauses; instances = λ i m hs.
 
     respected : (i : Instance) (f : FillingOf p i) → ((h : Literal) → h ∈ i .heads → Makes v h)
         → (i .body ≡ [] → ⊥) × ((l : Literal) → l ∈ i .body → Makes v l)
-    respected i f hs = filled i f (w .rules (f .rule) (filled-rule f .1) (f .filling) (f .inside)) hs
+    respected i f hs = filled i f (lines-rules v p fromLines (w .lines) (f .rule) (filled-rule f .1) (f .filling) (f .inside)) hs
 
 -- UNSAT of a problem: one that includes it is never answered UNKNOWN, at any budget, and no assignment satisfies it
 pub larger-never-unknown : (p q : Problem) → Includes p q → (b c : ℕ) (s u : State) → search p b ≡ done Unsat s → search q c ≡ done Unknown u → ⊥
 unfolding search
 larger-never-unknown p q w = among-never-unknown (taskOf p) (taskOf q) (includes-among p q w)
 
-pub larger-unsatisfiable : (p q : Problem) → Includes p q → (b : ℕ) (s : State) → search p b ≡ done Unsat s → (v : Assignment) → Satisfies v q → ⊥
+pub larger-unsatisfiable : (p q : Problem) → Includes p q → FromLines q → (b : ℕ) (s : State) → search p b ≡ done Unsat s → (v : Assignment) → Satisfies v q → ⊥
 unfolding search
-larger-unsatisfiable p q w b s e v m = among-unsatisfiable (taskOf p) (taskOf q) (includes-among p q w) b s e v (satisfies-respects v q m)
+larger-unsatisfiable p q w k b s e v m = among-unsatisfiable (taskOf p) (taskOf q) (includes-among p q w) b s e v (satisfies-respects v q k m)

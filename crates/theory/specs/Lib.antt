@@ -4,6 +4,7 @@ pub mod PlaceLaws
 pub mod DistinctLaws
 pub mod WordLaws
 pub mod InstanceLaws
+pub mod TwoWayLaws
 pub mod SearchLaws
 pub mod TableLaws
 pub mod Steps
@@ -17,8 +18,8 @@ pub mod TruthLaws
 pub mod Larger
 pub mod AskedLaws
 pub mod Reading
-pub mod Inclusion
 pub mod Limits
+pub mod Inclusion
 pub mod Connected
 pub mod BlankColumns
 pub mod Sources

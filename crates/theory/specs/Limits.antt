@@ -1,22 +1,23 @@
 -- What an accepted sheet says keeps the limits: each question that is answered yes leaves its bound behind. Assumes nothing.
-use Prim.Native.Nat.{ℕ, zero, suc, _-_, _≤_}
+use Prim.Native.Nat.{ℕ, zero, suc, _+_, _-_, _≤_}
 use mathlib.Core.Path.{_≡_, refl, sym, ap, subst, _∙_}
 use mathlib.Core.Logic.{_⊎_, inl, inr}
 use mathlib.Core.Bool.{Bool, true, false, not, _&&_}
-use mathlib.Core.List.{List, [], _∷_, _++_, List·Memᴰ·head, List·Memᴰ·tail, List·Memᴰ·not-nil}
+use mathlib.Core.List.{List, [], _∷_, _++_, append-nil, List·Memᴰ·head, List·Memᴰ·tail, List·Memᴰ·not-nil, List·Memᴰ·append-cases, List·Memᴰ·eq-of-singleton}
 use native.Mathlib.Omega.{arith}
 use lib.Dec.{eqb, leb, ltb}
 use lib.ListN.{length, getD, length-append}
-use borrow.Author.Tests.{eqb-true, eqb-false, leb-true, ltb-true, eq-eqb, ne-eqb}
+use borrow.Author.Tests.{eqb-true, eqb-false, leb-true, ltb-true, eq-eqb, ne-eqb, not-true}
 use Rattle.definitions.specs.Bounds.{mostRules, mostClauses}
 use Rattle.definitions.specs.Lists.{_∈_, isEmpty, distinct, joined}
-use Rattle.definitions.specs.Words.{Literal, Clause, Term, variable, constant, Pattern, Rule, Problem, goalAtoms}
+use Rattle.definitions.specs.Words.{Literal, Clause, Term, variable, constant, Pattern, Rule, TwoWay, forward, reverse, RuleLine, oneWay, twoWay, Problem, goalAtoms}
 use Rattle.definitions.specs.Sheet.{Line, putByte, lines, Number}
-use Rattle.definitions.specs.Questions.{Asked, no, yes, _>>=_, _>>_, ask, Parsed, within, count, kindOf, ruleArgument, clauseArgument, arguments, literal, literals, patternOf, literalOf, patterns, clauseLiterals, restricted, connected, constantsAsked, arityAsked, ruleCounts, ruleBehind, ruleAsked, clauseCount, clauseBehind, clauseAsked, withConstants, withSymbol, withRule, withClause, constantsLine, symbolLine, ruleLine, clauseLine, lineOfKind, columnsAsked, Draft, readLine, accepted, readLines, emptyDraft, read}
+use Rattle.definitions.specs.Questions.{Asked, no, yes, _>>=_, _>>_, ask, Parsed, within, count, rank, kindOf, ruleArgument, clauseArgument, arguments, literal, literals, patternOf, literalOf, patterns, clauseLiterals, restricted, connected, hasReverse, standsFor, rulesOf, bothWays, countsAs, counted, constantsAsked, arityAsked, ruleCounts, ruleBehind, ruleAsked, twoWayCounts, twoWayBehind, twoWayAsked, clauseCount, clauseBehind, clauseAsked, withConstants, withSymbol, withLine, withClause, constantsLine, symbolLine, ruleLine, twoWayLine, clauseLine, lineOfKind, columnsAsked, Draft, readLine, accepted, readLines, emptyDraft, read}
 use Rattle.theory.specs.Tests.{by-test, apart, and-left, and-right}
 use Rattle.theory.specs.TableLaws.{enterAll, enter-known, atomsOf, goal-atoms-more}
-use Rattle.theory.specs.AskedLaws.{by-asked, accepted-read}
-use Rattle.theory.specs.ListLaws.{Each, each-nil, each-cons, each-append, joined-length}
+use Rattle.theory.specs.AskedLaws.{by-asked, accepted-read, early-kind}
+use Rattle.theory.specs.ListLaws.{full-some, Each, each-nil, each-cons, each-append, joined-length, joined-append}
+use Rattle.theory.specs.TwoWayLaws.{stands-cases, counted-more, rules-few, rules-counted, Rewrites, FromLines}
 
 -- ── the limits ──
 
@@ -46,6 +47,19 @@ pub record RuleLimits (p : Problem) (r : Rule) : Type 0 where
   pub isConnected : connected r ≡ true
   pub eachHead : (x : Pattern) → x ∈ r .heads → PatternLimits p x
   pub eachBody : (x : Pattern) → x ∈ r .body → PatternLimits p x
+
+-- 7/14: a two-way rule keeps them both ways
+pub record TwoWayLimits (p : Problem) (t : TwoWay) : Type 0 where
+  pub someRewritten : 1 ≤ length (t .rewritten)
+  pub rewritten : length (t .rewritten) ≤ 2
+  pub body : length (t .body) ≤ 2
+  pub heads : length (t .kept) + length (t .rewritten) ≤ 3
+  pub turned : length (t .kept) + length (t .body) ≤ 3
+  pub isRestricted : restricted (forward t) ≡ true
+  pub isConnected : connected (forward t) ≡ true
+  pub eachKept : (x : Pattern) → x ∈ t .kept → PatternLimits p x
+  pub eachRewritten : (x : Pattern) → x ∈ t .rewritten → PatternLimits p x
+  pub eachBody : (x : Pattern) → x ∈ t .body → PatternLimits p x
 
 pub record ClauseLimits (p : Problem) (c : Clause) : Type 0 where
   pub literals : length c ≤ 8
@@ -158,14 +172,14 @@ unfolding count
 count-between q low high [] = refuses q
 count-between q low high (n ∷ ns) = asked q λ e. allows _ (within-between low high n e)
 
--- after the first line: the kind is no lower than the one before
-later-kind : (before : ℕ) (ns : List Number) → 1 ≤ before → Gives (λ w. (2 ≤ w .found) × (before ≤ w .found)) (kindOf before ns)
+-- after the first line: the kind is ranked no lower than the one before
+later-kind : (before : ℕ) (ns : List Number) → 1 ≤ before → Gives (λ w. (2 ≤ w .found) × (rank before ≤ rank (w .found))) (kindOf before ns)
 unfolding kindOf
 later-kind zero ns h = absurd (omega arith)
 later-kind (suc before) ns h =
-    then (count-between 7 2 4 ns) λ k b.
+    then (count-between 7 2 8 ns) λ k b.
     asked 7 λ e.
-    allows k (b .0, leb-true (suc before) (k .found) e)
+    allows k (b .0, leb-true (rank (suc before)) (rank (k .found)) (and-right (leb (rank (k .found)) 4) _ e))
 
 rule-argument : (p : Problem) (n : Number) → Gives (TermLimits p) (ruleArgument (p .constants) n)
 unfolding ruleArgument
@@ -240,10 +254,10 @@ counts-between ns =
     then (count-between 8 0 2 (heads .left)) λ body b.
     allows _ (h, b)
 
-rule-asked : (p : Problem) (ns : List Number)
-    → Gives (λ r. RuleLimits p r × (ltb (length (p .rules)) 32 ≡ true)) (ruleAsked (p .constants) (p .arities) (length (p .rules)) ns)
+rule-asked : (p : Problem) (rules : ℕ) (ns : List Number)
+    → Gives (λ r. RuleLimits p r × (ltb rules 32 ≡ true)) (ruleAsked (p .constants) (p .arities) rules ns)
 unfolding ruleAsked ruleBehind
-rule-asked p ns =
+rule-asked p rules ns =
     then (counts-between ns) λ counts h.
     asked 9 λ room.
     then (patterns-limits p (counts .found .heads) (counts .left)) λ heads hl.
@@ -264,6 +278,89 @@ rule-asked p ns =
       room,
     )
 
+two-way-counts : (ns : List Number)
+    → Gives (λ w. Between 1 2 (w .found .rewritten) × (w .found .body ≤ 2) × (w .found .kept + w .found .rewritten ≤ 3) × (w .found .kept + w .found .body ≤ 3)) (twoWayCounts ns)
+unfolding twoWayCounts
+two-way-counts ns =
+    then (count-between 8 0 2 ns) λ kept k.
+    then (count-between 8 1 2 (kept .left)) λ rewritten r.
+    then (count-between 8 0 2 (rewritten .left)) λ body b.
+    asked 8 λ sums.
+    let first = leb (kept .found + rewritten .found) 3 in
+    let second = leb (kept .found + body .found) 3 in
+    allows _ (r, b .1, leb-true _ 3 (and-left first second sums), leb-true _ 3 (and-right first second sums))
+
+two-way-asked : (p : Problem) (rules : ℕ) (ns : List Number)
+    → Gives (λ t. TwoWayLimits p t × (rules + bothWays (length (t .body)) ≤ 32)) (twoWayAsked (p .constants) (p .arities) rules ns)
+unfolding twoWayAsked twoWayBehind
+two-way-asked p rules ns =
+    then (two-way-counts ns) λ counts h.
+    asked 9 λ room.
+    then (patterns-limits p (counts .found .kept) (counts .left)) λ kept kl.
+    then (patterns-limits p (counts .found .rewritten) (kept .left)) λ rewritten rl.
+    then (patterns-limits p (counts .found .body) (rewritten .left)) λ body bl.
+    asked 11 λ _.
+    asked 12 λ safe.
+    asked 14 λ linked.
+    allows _ (
+      record {
+        someRewritten = omega (arith, rl .0, h .0 .0);
+        rewritten = omega (arith, rl .0, h .0 .1);
+        body = omega (arith, bl .0, h .1);
+        heads = omega (arith, kl .0, rl .0, h .2);
+        turned = omega (arith, kl .0, bl .0, h .3);
+        isRestricted = safe;
+        isConnected = linked;
+        eachKept = kl .1;
+        eachRewritten = rl .1;
+        eachBody = bl .1;
+      },
+      rw (bl .0) (leb-true (rules + bothWays (counts .found .body)) 32 room),
+    )
+
+-- the rules that a line stands for keep the limits: the forward rule by what was asked, the reverse rule by the test that it is there
+reverse-tests : (t : TwoWay) → hasReverse t ≡ true → (isEmpty (t .body) ≡ false) × (restricted (reverse t) ≡ true) × (connected (reverse t) ≡ true)
+unfolding hasReverse
+reverse-tests t h =
+    let some = not (isEmpty (t .body)) in
+    let first = and-left (some && restricted (reverse t)) (connected (reverse t)) h in
+    (not-true (isEmpty (t .body)) (and-left some (restricted (reverse t)) first), and-right some (restricted (reverse t)) first, and-right (some && restricted (reverse t)) (connected (reverse t)) h)
+
+module _ (p : Problem) (t : TwoWay) (l : TwoWayLimits p t) where
+  forward-limits : RuleLimits p (forward t)
+  unfolding forward
+  forward-limits =
+      record {
+        someHead = omega (arith, length-append (t .kept) (t .rewritten), l .someRewritten);
+        heads = omega (arith, length-append (t .kept) (t .rewritten), l .heads);
+        body = l .body;
+        isRestricted = l .isRestricted;
+        isConnected = l .isConnected;
+        eachHead = each-append (PatternLimits p) (t .kept) (l .eachKept) (l .eachRewritten);
+        eachBody = l .eachBody;
+      }
+
+  reverse-limits : hasReverse t ≡ true → RuleLimits p (reverse t)
+  unfolding reverse
+  reverse-limits h =
+      let (some, safe, linked) = reverse-tests t h in
+      record {
+        someHead = omega (arith, length-append (t .kept) (t .body), full-some (t .body) some);
+        heads = omega (arith, length-append (t .kept) (t .body), l .turned);
+        body = l .rewritten;
+        isRestricted = safe;
+        isConnected = linked;
+        eachHead = each-append (PatternLimits p) (t .kept) (l .eachKept) (l .eachBody);
+        eachBody = l .eachRewritten;
+      }
+
+  stands-limits : Each (RuleLimits p) (standsFor t)
+  stands-limits r m =
+      elim (stands-cases t r m) [
+        | inl e ↦ subst (RuleLimits p) (sym e) forward-limits
+        | inr (e, h) ↦ subst (RuleLimits p) (sym e) (reverse-limits h)
+      ]
+
 clause-asked : (p : Problem) (ns : List Number)
     → Gives (λ c. ClauseLimits p c × (ltb (length (p .clauses)) 64 ≡ true)) (clauseAsked (p .constants) (p .arities) (length (p .clauses)) ns)
 unfolding clauseAsked clauseCount clauseBehind
@@ -281,9 +378,9 @@ clause-asked-limits p ns c e = given (clause-asked p ns) c e .0
 -- ── a line ──
 
 -- the limits of a rule and of a clause speak of constants and symbols alone: other rules and clauses may stand beside
-module _ (p : Problem) (rs : List Rule) (cs : List Clause) where
+module _ (p : Problem) (ls : List RuleLine) (rs : List Rule) (cs : List Clause) where
   abbrev Beside : Problem
-  Beside = record { constants = p .constants; arities = p .arities; rules = rs; clauses = cs }
+  Beside = record { constants = p .constants; arities = p .arities; ruleLines = ls; rules = rs; clauses = cs }
 
   term-beside : (t : Term) → TermLimits p t → TermLimits Beside t
   term-beside (variable v) h = h
@@ -323,86 +420,128 @@ none-in e a m = List·Memᴰ·not-nil (subst (λ k. a ∈ k) e m)
 abbrev pub Bare : Problem → Type 0
 Bare p = (p .rules ≡ []) × (p .clauses ≡ [])
 
-constants-line : (p : Problem) → p .arities ≡ [] → Bare p → (ns : List Number) → Gives (λ q. Limits q × Bare q) (constantsLine p ns)
+-- the limits, and rules that are those of the lines
+abbrev Keeping : Problem → Type 0
+Keeping p = Limits p × FromLines p
+
+-- lines and rules stay where the constants, the symbols or the clauses change
+lines-beside : {p q : Problem} → q .ruleLines ≡ p .ruleLines → q .rules ≡ p .rules → FromLines p → FromLines q
+lines-beside e f b = record { rules = cc (b .rules); few = rw e (b .few); rewrites = rw e (b .rewrites) }
+
+constants-line : (p : Problem) → p .arities ≡ [] → Bare p → FromLines p → (ns : List Number) → Gives (λ q. Keeping q × Bare q) (constantsLine p ns)
 unfolding constantsLine withConstants goalAtoms distinct joined
-constants-line p a b ns =
+constants-line p a b k ns =
     then (constants-asked ns) λ n h.
     allows _ (
-      record {
-        someConstant = h .0;
-        constants = h .1;
-        symbols = rw a (omega arith);
-        eachArity = λ k m. absurd (none-in a k m);
-        rules = rw (b .0) (omega arith);
-        eachRule = λ r m. absurd (none-in (b .0) r m);
-        clauses = rw (b .1) (omega arith);
-        eachClause = λ c m. absurd (none-in (b .1) c m);
-        goals = rw (b .1) (omega arith);
-      },
+      (
+        record {
+          someConstant = h .0;
+          constants = h .1;
+          symbols = rw a (omega arith);
+          eachArity = λ k m. absurd (none-in a k m);
+          rules = rw (b .0) (omega arith);
+          eachRule = λ r m. absurd (none-in (b .0) r m);
+          clauses = rw (b .1) (omega arith);
+          eachClause = λ c m. absurd (none-in (b .1) c m);
+          goals = rw (b .1) (omega arith);
+        },
+        lines-beside refl refl k,
+      ),
       b,
     )
 
-symbol-line : (p : Problem) → Limits p → Bare p → (ns : List Number) → Gives (λ q. Limits q × Bare q) (symbolLine p ns)
+symbol-line : (p : Problem) → Keeping p → Bare p → (ns : List Number) → Gives (λ q. Keeping q × Bare q) (symbolLine p ns)
 unfolding symbolLine withSymbol
-symbol-line p l b ns =
+symbol-line p (l, k) b ns =
     then (arity-asked (length (p .arities)) ns) λ n h.
+    allows _ (
+      (
+        record {
+          someConstant = l .someConstant;
+          constants = l .constants;
+          symbols = one-more (p .arities) n 16 (h .1);
+          eachArity = each-more (λ k. k ≤ 3) (p .arities) n (l .eachArity) (h .0);
+          rules = l .rules;
+          eachRule = λ r m. absurd (none-in (b .0) r m);
+          clauses = l .clauses;
+          eachClause = λ c m. absurd (none-in (b .1) c m);
+          goals = l .goals;
+        },
+        lines-beside refl refl k,
+      ),
+      b,
+    )
+
+-- a line more, of kind 3 or 8, that question 9 lets through
+line-added : (p : Problem) (l : RuleLine) → FromLines p → counted (p .ruleLines) + countsAs l ≤ 32 → Rewrites l → FromLines (withLine p l)
+unfolding withLine joined counted
+line-added p l b room h =
+    record {
+      rules = rw (joined-append rulesOf (p .ruleLines) (l ∷ []), b .rules, append-nil (rulesOf l));
+      few = omega (arith, counted-more (p .ruleLines) l, room);
+      rewrites = λ k m. elim (List·Memᴰ·append-cases (p .ruleLines) m) [ inl i ↦ b .rewrites k i | inr j ↦ subst Rewrites (sym (List·Memᴰ·eq-of-singleton j)) h ];
+    }
+
+line-keeping : (p : Problem) (x : RuleLine) → Keeping p → counted (p .ruleLines) + countsAs x ≤ 32 → Rewrites x → Each (RuleLimits p) (rulesOf x)
+    → Keeping (withLine p x)
+unfolding withLine
+line-keeping p x (l, b) room h each =
+    let ls = p .ruleLines ++ (x ∷ []) in
+    let rs = p .rules ++ rulesOf x in (
+      record {
+        someConstant = l .someConstant;
+        constants = l .constants;
+        symbols = l .symbols;
+        eachArity = l .eachArity;
+        rules = omega (arith, length-append (p .rules) (rulesOf x), ap length (b .rules), rules-counted (p .ruleLines), rules-few x, room);
+        eachRule = λ r m. rule-beside p ls rs (p .clauses) (each-append (RuleLimits p) (p .rules) (l .eachRule) each r m);
+        clauses = l .clauses;
+        eachClause = λ c m. clause-beside p ls rs (p .clauses) (l .eachClause c m);
+        goals = l .goals;
+      },
+      line-added p x b room h,
+    )
+
+rule-line : (p : Problem) → Keeping p → (ns : List Number) → Gives Keeping (ruleLine p ns)
+unfolding ruleLine rulesOf countsAs
+rule-line p l ns =
+    then (rule-asked p (counted (p .ruleLines)) ns) λ r h.
+    allows _ (line-keeping p (oneWay r) l (omega (arith, ltb-true (counted (p .ruleLines)) 32 (h .1))) tt (each-cons (RuleLimits p) (h .0) (each-nil (RuleLimits p))))
+
+two-way-line : (p : Problem) → Keeping p → (ns : List Number) → Gives Keeping (twoWayLine p ns)
+unfolding twoWayLine rulesOf countsAs
+two-way-line p l ns =
+    then (two-way-asked p (counted (p .ruleLines)) ns) λ t h.
+    allows _ (line-keeping p (twoWay t) l (h .1) (λ e. let z = ap length e in omega (arith, h .0 .someRewritten)) (stands-limits p t (h .0)))
+
+clause-line : (p : Problem) → Keeping p → (ns : List Number) → Gives Keeping (clauseLine p ns)
+unfolding clauseLine withClause
+clause-line p (l, b) ns =
+    then (clause-asked p ns) λ c h.
+    asked 13 λ few.
+    let cs = p .clauses ++ (c ∷ []) in
     allows _ (
       record {
         someConstant = l .someConstant;
         constants = l .constants;
-        symbols = one-more (p .arities) n 16 (h .1);
-        eachArity = each-more (λ k. k ≤ 3) (p .arities) n (l .eachArity) (h .0);
+        symbols = l .symbols;
+        eachArity = l .eachArity;
         rules = l .rules;
-        eachRule = λ r m. absurd (none-in (b .0) r m);
-        clauses = l .clauses;
-        eachClause = λ c m. absurd (none-in (b .1) c m);
-        goals = l .goals;
+        eachRule = λ r m. rule-beside p (p .ruleLines) (p .rules) cs (l .eachRule r m);
+        clauses = one-more (p .clauses) c 64 (h .1);
+        eachClause = λ x m. clause-beside p (p .ruleLines) (p .rules) cs (each-more (ClauseLimits p) (p .clauses) c (l .eachClause) (h .0) x m);
+        goals = leb-true (length (goalAtoms cs)) 64 few;
       },
-      b,
+      lines-beside refl refl b,
     )
 
-rule-line : (p : Problem) → Limits p → (ns : List Number) → Gives Limits (ruleLine p ns)
-unfolding ruleLine withRule
-rule-line p l ns =
-    then (rule-asked p ns) λ r h.
-    let rs = p .rules ++ (r ∷ []) in
-    allows _ (record {
-      someConstant = l .someConstant;
-      constants = l .constants;
-      symbols = l .symbols;
-      eachArity = l .eachArity;
-      rules = one-more (p .rules) r 32 (h .1);
-      eachRule = λ x m. rule-beside p rs (p .clauses) (each-more (RuleLimits p) (p .rules) r (l .eachRule) (h .0) x m);
-      clauses = l .clauses;
-      eachClause = λ c m. clause-beside p rs (p .clauses) (l .eachClause c m);
-      goals = l .goals;
-    })
-
-clause-line : (p : Problem) → Limits p → (ns : List Number) → Gives Limits (clauseLine p ns)
-unfolding clauseLine withClause
-clause-line p l ns =
-    then (clause-asked p ns) λ c h.
-    asked 13 λ few.
-    let cs = p .clauses ++ (c ∷ []) in
-    allows _ (record {
-      someConstant = l .someConstant;
-      constants = l .constants;
-      symbols = l .symbols;
-      eachArity = l .eachArity;
-      rules = l .rules;
-      eachRule = λ r m. rule-beside p (p .rules) cs (l .eachRule r m);
-      clauses = one-more (p .clauses) c 64 (h .1);
-      eachClause = λ x m. clause-beside p (p .rules) cs (each-more (ClauseLimits p) (p .clauses) c (l .eachClause) (h .0) x m);
-      goals = leb-true (length (goalAtoms cs)) 64 few;
-    })
-
-line-of-kind-1 : (p : Problem) → p .arities ≡ [] → Bare p → (k : ℕ) → k ≡ 1 → (ns : List Number)
-    → Gives (λ q. Limits q × Bare q) (lineOfKind k p ns)
+line-of-kind-1 : (p : Problem) → p .arities ≡ [] → Bare p → FromLines p → (k : ℕ) → k ≡ 1 → (ns : List Number)
+    → Gives (λ q. Keeping q × Bare q) (lineOfKind k p ns)
 unfolding lineOfKind
-line-of-kind-1 p a b k e ns = rw (eq-eqb k 1 e, lineOfKind) (constants-line p a b ns)
+line-of-kind-1 p a b l k e ns = rw (eq-eqb k 1 e, lineOfKind) (constants-line p a b l ns)
 
-line-of-later-kind : (p : Problem) → Limits p → (k : ℕ) → 2 ≤ k → (k ≤ 2 → Bare p) → (ns : List Number)
-    → Gives (λ q. Limits q × (k ≤ 2 → Bare q)) (lineOfKind k p ns)
+line-of-later-kind : (p : Problem) → Keeping p → (k : ℕ) → 2 ≤ k → (k ≤ 2 → Bare p) → (ns : List Number)
+    → Gives (λ q. Keeping q × (k ≤ 2 → Bare q)) (lineOfKind k p ns)
 unfolding lineOfKind
 line-of-later-kind p l k h b ns =
     let e1 : eqb k 1 ≡ false = ne-eqb k 1 (λ e. omega arith) in
@@ -411,7 +550,9 @@ line-of-later-kind p l k h b ns =
     (λ e2. let above : k ≤ 2 → ⊥ = λ le. eqb-false k 2 e2 (omega arith) in
     by-test (eqb k 3)
     (λ e3. rw (e1, e2, e3, lineOfKind) (weaken (rule-line p l ns) (λ q g. (g, λ le. absurd (above le)))))
-    (λ e3. rw (e1, e2, e3, lineOfKind) (weaken (clause-line p l ns) (λ q g. (g, λ le. absurd (above le))))))
+    (λ e3. by-test (eqb k 8)
+    (λ e8. rw (e1, e2, e3, e8, lineOfKind) (weaken (two-way-line p l ns) (λ q g. (g, λ le. absurd (above le)))))
+    (λ e8. rw (e1, e2, e3, e8, lineOfKind) (weaken (clause-line p l ns) (λ q g. (g, λ le. absurd (above le)))))))
 
 -- ── one clause more ──
 
@@ -432,48 +573,53 @@ one-more-searchable p h l its goal =
       symbols = s .symbols;
       eachArity = s .eachArity;
       rules = s .rules;
-      eachRule = λ r m. rule-beside p (p .rules) cs (s .eachRule r m);
+      eachRule = λ r m. rule-beside p (p .ruleLines) (p .rules) cs (s .eachRule r m);
       clauses = omega (arith, length-append (p .clauses) ((l ∷ []) ∷ []), h .clauses);
-      eachClause = λ c m. clause-beside p (p .rules) cs (each-more (ClauseLimits p) (p .clauses) (l ∷ []) (s .eachClause) alone c m);
+      eachClause = λ c m. clause-beside p (p .ruleLines) (p .rules) cs (each-more (ClauseLimits p) (p .clauses) (l ∷ []) (s .eachClause) alone c m);
       goals = subst (λ gs. length gs ≤ 64) (sym (goal-known (p .clauses) l goal)) (h .goals);
     }
 
 -- ── all lines ──
 
--- what holds after the first line; kinds never fall, so up to the last symbol no rule and no clause has been read
+-- what holds after the first line; kinds never fall in rank, so up to the last symbol no rule and no clause has been read
 pub record Begun (d : Draft) : Type 0 where
   pub limits : Limits (d .problem)
+  pub fromLines : FromLines (d .problem)
   pub begun : 1 ≤ d .before
   pub bare : d .before ≤ 2 → Bare (d .problem)
+
+no-lines : FromLines (emptyDraft .problem)
+unfolding emptyDraft joined counted
+no-lines = record { rules = refl; few = omega arith; rewrites = λ l m. absurd (List·Memᴰ·not-nil m) }
 
 first-line : (l : Line) → Gives Begun (readLine emptyDraft l)
 unfolding readLine emptyDraft kindOf
 first-line l =
     then (anything (columnsAsked l)) λ ns _.
     then (count-between 7 1 1 ns) λ k h.
-    then (line-of-kind-1 _ refl (refl, refl) (k .found) (omega (arith, h .0, h .1)) (k .left)) λ p g.
-    allows _ (record { limits = g .0; begun = h .0; bare = λ _. g .1 })
+    then (line-of-kind-1 _ refl (refl, refl) no-lines (k .found) (omega (arith, h .0, h .1)) (k .left)) λ p g.
+    allows _ (record { limits = g .0 .0; fromLines = g .0 .1; begun = h .0; bare = λ _. g .1 })
 
 later-line : (d : Draft) → Begun d → (l : Line) → Gives Begun (readLine d l)
 unfolding readLine
 later-line d i l =
     then (anything (columnsAsked l)) λ ns _.
     then (later-kind (d .before) ns (i .begun)) λ k h.
-    then (line-of-later-kind (d .problem) (i .limits) (k .found) (h .0) (λ le. i .bare (omega (arith, h .1, le))) (k .left)) λ p g.
-    allows _ (record { limits = g .0; begun = omega (arith, h .0); bare = g .1 })
+    then (line-of-later-kind (d .problem) (i .limits, i .fromLines) (k .found) (h .0) (λ le. i .bare (early-kind (d .before) (k .found) (h .1) le)) (k .left)) λ p g.
+    allows _ (record { limits = g .0 .0; fromLines = g .0 .1; begun = omega (arith, h .0); bare = g .1 })
 
 -- a line that is read, the first one or a later one
 pub line-begun : (d e : Draft) (l : Line) → (d ≡ emptyDraft) ⊎ Begun d → readLine d l ≡ yes e → Begun e
 line-begun d e l (inl q) h = given (first-line l) e (ap (λ (x : Draft). readLine x l) (sym q) ∙ h)
 line-begun d e l (inr b) h = given (later-line d b l) e h
 
-later-lines : (ls : List Line) (d : Draft) (n : ℕ) (p : Problem) → Begun d → readLines d n ls ≡ accepted p → Limits p
+later-lines : (ls : List Line) (d : Draft) (n : ℕ) (p : Problem) → Begun d → readLines d n ls ≡ accepted p → Keeping p
 unfolding readLines
-later-lines [] d n p i e = let q : d .problem ≡ p = cc in subst Limits q (i .limits)
+later-lines [] d n p i e = let q : d .problem ≡ p = cc in subst Keeping q (i .limits, i .fromLines)
 later-lines (l ∷ ls) d n p i e =
     by-asked (readLine d l) (λ q f. apart (cc)) (λ d′ f. later-lines ls d′ (suc n) p (given (later-line d i l) d′ f) (cc))
 
-all-lines : (ls : List Line) (p : Problem) → isEmpty ls ≡ false → readLines emptyDraft 1 ls ≡ accepted p → Limits p
+all-lines : (ls : List Line) (p : Problem) → isEmpty ls ≡ false → readLines emptyDraft 1 ls ≡ accepted p → Keeping p
 unfolding readLines isEmpty
 all-lines [] p s e = apart (cc)
 all-lines (l ∷ ls) p s e =
@@ -490,5 +636,12 @@ unfolding isEmpty lines
 some-line [] s = apart (cc)
 some-line (b ∷ bs) s = by-test (eqb b 10) (λ e. cc) (λ e. cc (put-some b (lines bs)))
 
+accepted-keeping : (sheet : List ℕ) (p : Problem) → read sheet ≡ accepted p → Keeping p
+accepted-keeping sheet p e = let (_, full, all) = accepted-read sheet p e in all-lines (lines sheet) p (some-line sheet full) all
+
 pub accepted-limits : (sheet : List ℕ) (p : Problem) → read sheet ≡ accepted p → Limits p
-accepted-limits sheet p e = let (_, full, all) = accepted-read sheet p e in all-lines (lines sheet) p (some-line sheet full) all
+accepted-limits sheet p e = accepted-keeping sheet p e .0
+
+-- its rules are those that its lines stand for, in their order
+pub accepted-from-lines : (sheet : List ℕ) (p : Problem) → read sheet ≡ accepted p → FromLines p
+accepted-from-lines sheet p e = accepted-keeping sheet p e .1

@@ -34,6 +34,22 @@ unfolding isEmpty
 empty-nil [] e = refl
 empty-nil (x ∷ l) e = apart (cc)
 
+-- the length tells whether a list is empty
+pub none-empty : {A : Type 0} (l : List A) → length l ≡ 0 → isEmpty l ≡ true
+unfolding isEmpty
+none-empty [] e = refl
+none-empty (x ∷ l) e = absurd (omega arith)
+
+pub some-full : {A : Type 0} (l : List A) → (length l ≡ 0 → ⊥) → isEmpty l ≡ false
+unfolding isEmpty
+some-full [] h = absurd (h refl)
+some-full (x ∷ l) h = refl
+
+pub full-some : {A : Type 0} (l : List A) → isEmpty l ≡ false → 1 ≤ length l
+unfolding isEmpty
+full-some [] e = apart (cc)
+full-some (x ∷ l) e = omega arith
+
 module _ {A : Type 0} (p : A → Bool) where
   -- the first element that passes, and that none before it does
   pub record First (xs : List A) (x : A) : Type 0 where

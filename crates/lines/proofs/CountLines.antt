@@ -8,10 +8,10 @@ use lib.ListN.{length, getD, set, drop}
 use borrow.Author.Tests.{lt-ltb}
 use Rattle.definitions.specs.Questions.{Asked, no, yes, _>>=_, _>>_, ask, within, constantsAsked, arityAsked}
 use Rattle.encoding.specs.Signs.{numberOf, numbers}
-use Rattle.sheet.specs.LineReads.{moreConstants, moreSymbols, ConstantsRead, SymbolRead}
+use Rattle.lines.specs.LineReads.{moreConstants, moreSymbols, ConstantsRead, SymbolRead}
 use Rattle.encoding.specs.declared.Sizes.{Sizes}
-use Rattle.sheet.specs.declared.LineRead.the-variants.{No, Yes}
-use Rattle.sheet.proofs.CountColumns.{no-column, some-column, count-missing, count-out, count-in}
+use Rattle.lines.specs.declared.LineRead.the-variants.{No, Yes}
+use Rattle.lines.proofs.CountColumns.{no-column, some-column, count-missing, count-out, count-in}
 
 -- ── kind 1 ──
 

@@ -3,9 +3,12 @@ use Prim.Native.Nat.{ℕ, suc, _/_, _<_, _≤_}
 use mathlib.Core.Path.{_≡_}
 use mathlib.Core.Bool.{true, false}
 use mathlib.Core.List.{List}
+use lib.Dec.{ltb}
 use lib.ListN.{length, getD, drop}
+use borrow.Author.Tests.{ltb-true, ltb-false}
 use Rattle.definitions.specs.Lists.{isEmpty}
 use Rattle.definitions.specs.Questions.{no, yes, _>>_, ask, within, count}
+use Rattle.theory.specs.Tests.{by-test}
 use Rattle.encoding.specs.Signs.{numberOf, numbers}
 use Rattle.rows.specs.RowLaws.{numbers-cons, numbers-end}
 
@@ -32,3 +35,13 @@ module _ (n : ℕ) (row : List ℕ) (i : ℕ) where
           → count q low high (drop i (numbers n row)) ≡ yes (record { found = getD row i 0 / 2; left = drop (suc i) (numbers n row) })
       unfolding count ask _>>_ numberOf
       count-in h = rw (numbers-cons n row i fits there, h)
+
+-- either way, a count is refused by its own question
+pub by-count : {P : Type 0} (n : ℕ) (row : List ℕ) (i q low high : ℕ) → n ≤ length row → (count q low high (drop i (numbers n row)) ≡ no q → P)
+    → (i < n → count q low high (drop i (numbers n row)) ≡ yes (record { found = getD row i 0 / 2; left = drop (suc i) (numbers n row) }) → P) → P
+by-count n row i q low high fits refused found =
+    by-test (ltb i n)
+    (λ there. by-test (within low high (numberOf (getD row i 0)))
+    (λ t. found (ltb-true i n there) (count-in n row i q low high fits (ltb-true i n there) t))
+    (λ t. refused (count-out n row i q low high fits (ltb-true i n there) t)))
+    (λ none. refused (count-missing n row i q low high (ltb-false i n none)))

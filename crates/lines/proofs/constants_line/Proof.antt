@@ -1,12 +1,12 @@
--- `sheet::lines::constants_line` meets its contract, return by return. Assumes nothing.
+-- `lines::constants_line` meets its contract, return by return. Assumes nothing.
 use mathlib.Core.Path.{sym, _∙_}
 use native.Mathlib.Omega.{arith}
-use Rattle.sheet.specs.LineReads.{moreConstants}
-use Rattle.sheet.proofs.CountLines.{constants-refused, constants-missing, constants-out, constants-over, constants-read}
+use Rattle.lines.specs.LineReads.{moreConstants}
+use Rattle.lines.proofs.CountLines.{constants-refused, constants-missing, constants-out, constants-over, constants-read}
 use borrow.Author.Needs.{needs}
 use borrow.Author.Tests.{not-true, not-false}
-use Rattle.sheet.proofs.lines.constants_line.Statement.{statement}
-use Rattle.sheet.proofs.lines.constants_line.Tie as tie
+use Rattle.lines.proofs.constants_line.Statement.{statement}
+use Rattle.lines.proofs.constants_line.Tie as tie
 
 returns : tie.Need-returns
 returns c = constants-refused _ (constants-missing _ _ (c .if1 .taken))

@@ -1,4 +1,4 @@
--- `sheet::lines::clause_line` meets its contract: the count return by return, then the clause by what its slots hold. Assumes nothing.
+-- `lines::clause_line` meets its contract: the count return by return, then the clause by what its slots hold. Assumes nothing.
 use Prim.Native.Nat.{ℕ, _≤_}
 use mathlib.Core.Path.{_≡_, sym, _∙_}
 use mathlib.Core.Bool.{true}
@@ -7,12 +7,12 @@ use native.Mathlib.Omega.{arith}
 use lib.ListN.{length, getD, take, length-take}
 use Rattle.definitions.specs.Questions.{within}
 use Rattle.encoding.specs.Signs.{numberOf}
-use Rattle.sheet.specs.LineReads.{moreClauses}
-use Rattle.sheet.proofs.ClauseLines.{clause-refused, literals-missing, literals-out, clauses-full, ClauseCounted, clause-few, clause-unread, clause-over, clause-slots, clause-many, clause-read}
+use Rattle.lines.specs.LineReads.{moreClauses}
+use Rattle.lines.proofs.ClauseLines.{clause-refused, literals-missing, literals-out, clauses-full, ClauseCounted, clause-few, clause-unread, clause-over, clause-slots, clause-many, clause-read}
 use borrow.Author.Needs.{needs}
 use borrow.Author.Tests.{not-true, not-false}
-use Rattle.sheet.proofs.lines.clause_line.Statement.{statement}
-use Rattle.sheet.proofs.lines.clause_line.Tie as tie
+use Rattle.lines.proofs.clause_line.Statement.{statement}
+use Rattle.lines.proofs.clause_line.Tie as tie
 
 returns : tie.Need-returns
 returns c = clause-refused _ _ _ _ _ _ _ _ _ (literals-missing _ _ _ _ _ (c .if1 .taken))

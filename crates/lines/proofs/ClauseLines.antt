@@ -19,12 +19,12 @@ use Rattle.literals.specs.SlotReads.{argument, SlotsRead}
 use Rattle.encoding.specs.Slots.{slotWords}
 use Rattle.literals.specs.SlotReadLaws.{literals-length, clause-literals, PatternRead, patterns-read}
 use Rattle.literals.specs.Entering.{ClauseSlots, Entered, entered, enterSlots}
-use Rattle.sheet.specs.LineReads.{moreClauses, clauseEntered, clauseAnswer, ClauseRead}
+use Rattle.lines.specs.LineReads.{moreClauses, clauseEntered, clauseAnswer, ClauseRead}
 use Rattle.encoding.specs.declared.Sizes.{Sizes}
-use Rattle.sheet.specs.declared.LineRead.{LineRead}
-use Rattle.sheet.specs.declared.LineRead.the-variants.{No, Yes}
-use Rattle.sheet.proofs.CountColumns.{count-missing, count-out, count-in}
-use Rattle.sheet.proofs.SlotWalks.{SlotsWalked, slots-refused, slots-walked, left-over, none-left, words-front}
+use Rattle.lines.specs.declared.LineRead.{LineRead}
+use Rattle.lines.specs.declared.LineRead.the-variants.{No, Yes}
+use Rattle.lines.proofs.CountColumns.{count-missing, count-out, count-in}
+use Rattle.lines.proofs.SlotWalks.{SlotsWalked, slots-refused, slots-walked, left-over, none-left, words-front}
 use Rattle.literals.specs.ReadClauseLaws.{slots-limits, enter-front, patterns-kept}
 
 -- a line that is refused leaves the arrays free

@@ -1,14 +1,14 @@
--- `sheet::lines::symbol_line` meets its contract, return by return. Assumes nothing.
+-- `lines::symbol_line` meets its contract, return by return. Assumes nothing.
 use mathlib.Core.Path.{sym, _∙_}
 use native.Mathlib.Omega.{arith}
 use Rattle.theory.specs.Limits.{within-between}
 use Rattle.encoding.specs.Signs.{numberOf}
-use Rattle.sheet.specs.LineReads.{moreSymbols}
-use Rattle.sheet.proofs.CountLines.{symbol-refused, arity-missing, arity-out, symbols-full, arity-over, symbol-read}
+use Rattle.lines.specs.LineReads.{moreSymbols}
+use Rattle.lines.proofs.CountLines.{symbol-refused, arity-missing, arity-out, symbols-full, arity-over, symbol-read}
 use borrow.Author.Needs.{needs}
 use borrow.Author.Tests.{not-true, not-false}
-use Rattle.sheet.proofs.lines.symbol_line.Statement.{statement}
-use Rattle.sheet.proofs.lines.symbol_line.Tie as tie
+use Rattle.lines.proofs.symbol_line.Statement.{statement}
+use Rattle.lines.proofs.symbol_line.Tie as tie
 
 returns : tie.Need-returns
 returns c = symbol-refused _ _ _ (arity-missing _ _ _ (c .if1 .taken))
