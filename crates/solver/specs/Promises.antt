@@ -8,15 +8,15 @@ use Prim.Native.Nat.{ℕ, _%_, _≤_}
 use mathlib.Core.Path.{_≡_, ap, _∙_}
 use mathlib.Core.Logic.{_⊎_}
 use mathlib.Core.Bool.{true, false, _||_}
-use mathlib.Core.List.{List, _++_, map}
+use mathlib.Core.List.{List, [], _++_, map}
 use lib.ListN.{length, take}
-use Rattle.definitions.specs.Lists.{_∈_, all, distinct}
+use Rattle.definitions.specs.Lists.{_∈_, all, joined, distinct}
 use Rattle.definitions.specs.Bounds.{sheetBytes, roomBytes, mostAtoms, mostExported, exportBytes}
-use Rattle.definitions.specs.Words.{Atom, Literal, sameLiteral, Rule, Problem, goalAtoms}
+use Rattle.definitions.specs.Words.{Atom, Literal, sameLiteral, Clause, Rule, TwoWay, twoWay, Problem, goalAtoms}
 use Rattle.definitions.specs.Instances.{substitutions, Instance, Task, taskOf, FillingOf}
-use Rattle.definitions.specs.Meaning.{Choice, Fails, Assignment, Satisfies}
+use Rattle.definitions.specs.Meaning.{Choice, Fails, Assignment, SatisfiesClause, SatisfiesRule, SatisfiesLine, Satisfies}
 use Rattle.definitions.specs.Sheet.{Line, nothing, decimal}
-use Rattle.definitions.specs.Questions.{Asked, no, yes, columns, connected, Draft, readLine, accepted, read}
+use Rattle.definitions.specs.Questions.{Asked, no, yes, columns, connected, hasReverse, standsFor, rulesOf, Draft, readLine, accepted, read}
 use Rattle.definitions.specs.Search.{Trail, isTrue, Logged, clauseOf, notFalse, actOn, isGoal, loggedAct, State, start, done, cameTo, run, search}
 use Rattle.definitions.specs.LiteralTest.{literalTest, TellsApart}
 use Rattle.definitions.specs.Verdicts.{FirstChoice, SpentWhen, FullWhen}
@@ -26,11 +26,14 @@ use Rattle.definitions.specs.Export.{exportCall, exportText, roomAfterExport, e
 use Rattle.definitions.specs.Sheets.{Accepted, Answers, Keeps, passes, FilledAlike, blankColumn, isBlank, HeadAmong, Shares, Apart}
 use Rattle.definitions.specs.declared.Verdict.{Verdict}
 use Rattle.definitions.specs.declared.Verdict.the-variants.{Unsat, Unknown, Spent, Full}
+use Rattle.definitions.specs.TwoWayTrials.{freeSheet, freeProblem, free-read, bodyAlone, clauses-satisfied, rules-satisfied, equivalence-broken}
 use Rattle.theory.specs.Theorems.{unsat, unknown, spent, full}
 use Rattle.theory.specs.InstanceLaws.{substitution-complete, every-filling, only-fillings}
 use Rattle.theory.specs.SearchLaws.{clause-once, heads-once}
 use Rattle.theory.specs.CallLaws.{call-comes, answer-from-search, its-search}
 use Rattle.theory.specs.TruthLaws.{search-tells-apart}
+use Rattle.theory.specs.TwoWayLaws.{equivalence-rules, rules-equivalence, lines-rules}
+use Rattle.theory.specs.Limits.{accepted-from-lines}
 use Rattle.theory.specs.Demand3.{never-satisfied, never-unknown}
 use Rattle.theory.specs.Connected.{connected-heads, head-apart}
 use Rattle.theory.specs.BlankColumns.{nothing-blank, passed-over, blank-line, same-reading, same-accepted, same-results, same-keeps}
@@ -86,7 +89,8 @@ module _ (sheet : List ℕ) (budget : ℕ) (room : List ℕ) where
 -- Take any sheet that some call answers UNSAT, at whatever budget and room, and any second accepted sheet that keeps its constants,
 -- symbols, rules and clauses, with anything besides, in any order.
 module _ (first second : List ℕ) (budget : ℕ) (room : List ℕ) (answered : Answers first budget room Unsat) (accepts : Accepted second) (keeps : Keeps first second) where
-  -- Then no true/false assignment of all atoms satisfies all clauses of the second and every filling of all its rules,
+  -- Then no true/false assignment of all atoms satisfies all clauses of the second and every filling of all its rules, two-way rules as
+  -- equivalences (7/14),
   pub demand-3-assignments : (v : Assignment) → Satisfies v (accepts .problem) → ⊥
   demand-3-assignments = never-satisfied first second budget room answered accepts keeps
 
@@ -243,3 +247,32 @@ module _ (p : Problem) (sizes : Sizes) (rules : List ℕ) (m : Machine) (loaded 
 -- of the calls are word for word as they were.
 pub request-6-words : (v u : Values) → ValuesFit v → ValuesFit u → statesIn v ≡ statesIn u → v ≡ u
 request-6-words = table-words
+
+-- 7/14. Whatever makes a two-way rule hold as an equivalence, in every filling, satisfies every filling of the rules that it stands for;
+pub request-7 : (v : Assignment) (constants : ℕ) (t : TwoWay) → (t .rewritten ≡ [] → ⊥) → SatisfiesLine v constants (twoWay t)
+    → (r : Rule) → r ∈ standsFor t → SatisfiesRule v constants r
+request-7 = equivalence-rules
+
+-- and the other way too, where the reverse rule is among them or the body is empty.
+pub request-7-back : (v : Assignment) (constants : ℕ) (t : TwoWay) → (hasReverse t ≡ true) ⊎ (t .body ≡ [])
+    → ((r : Rule) → r ∈ standsFor t → SatisfiesRule v constants r) → SatisfiesLine v constants (twoWay t)
+request-7-back = rules-equivalence
+
+-- Elsewhere it may fail: here is an accepted sheet with an assignment that satisfies its clauses and every filling of its rules, and not the
+-- sheet.
+pub request-7-not-back : (sheet : List ℕ) × (p : Problem) × (v : Assignment) × (read sheet ≡ accepted p)
+    × ((c : Clause) → c ∈ p .clauses → SatisfiesClause v c) × ((r : Rule) → r ∈ p .rules → SatisfiesRule v (p .constants) r) × (Satisfies v p → ⊥)
+request-7-not-back = (freeSheet, freeProblem, bodyAlone, free-read, clauses-satisfied, rules-satisfied, equivalence-broken)
+
+module _ (sheet : List ℕ) (p : Problem) (reads : read sheet ≡ accepted p) where
+  -- In an accepted sheet every two-way rule rewrites a head, as 7/14 supposes.
+  pub request-7-rewritten : (t : TwoWay) → twoWay t ∈ p .ruleLines → t .rewritten ≡ [] → ⊥
+  request-7-rewritten t = accepted-from-lines sheet p reads .rewrites (twoWay t)
+
+  -- Its rules, which are numbered from 1, are those that its lines of kinds 3 and 8 stand for, from the top: no number is left out.
+  pub request-7-numbers : p .rules ≡ joined rulesOf (p .ruleLines)
+  request-7-numbers = accepted-from-lines sheet p reads .rules
+
+  -- Whatever satisfies it still satisfies every filling of all of them.
+  pub request-7-rules : (v : Assignment) → Satisfies v p → (r : Rule) → r ∈ p .rules → SatisfiesRule v (p .constants) r
+  request-7-rules v satisfies = lines-rules v p (accepted-from-lines sheet p reads) (satisfies .lines)
