@@ -1,9 +1,10 @@
 //! One sheet compared: what the reader, the search and the meaning expect against what the library's
-//! calls do.
+//! calls do; and its two-way rules against the rules that the search has for them.
 
 use crate::case::{printable, Case, InWords};
 use crate::dimacs::Cnf;
 use crate::ended::Ended;
+use crate::equivalence;
 use crate::export;
 use crate::interface::{self, Listed, Room, Solved};
 use crate::listing;
@@ -32,9 +33,11 @@ enum Expected {
 pub enum Same {
     Refused(Refusal),
     Ended {
+        problem: Problem,
         ended: Ended,
         events: Events,
         by_meaning: bool,
+        two_ways: equivalence::Outcome,
     },
     TooLarge,
 }
@@ -90,10 +93,16 @@ pub fn check(case: &Case) -> Result<Same, Vec<String>> {
         } => {
             compare(&first, &second, &ended.values(), &listing, &mut differences);
             let by_meaning = compare_meaning(&first, &second, &problem, &mut differences);
+            let two_ways = equivalence::check(&case.sheet, &problem).unwrap_or_else(|difference| {
+                differences.push(difference);
+                equivalence::Outcome::default()
+            });
             Same::Ended {
+                problem,
                 ended,
                 events,
                 by_meaning,
+                two_ways,
             }
         }
         Expected::TooLarge => Same::TooLarge,

@@ -1,4 +1,4 @@
-//! Damage to a sheet: to single bytes, to lines, to its columns, and by blanks.
+//! Damage to a sheet: to single bytes, to lines, to its columns, by blanks, and to its two-way rules.
 
 use crate::blanks::{put_some, text, BLANK};
 use crate::random::Random;
@@ -15,11 +15,15 @@ const NUMBERS: &[i32] = &[
     0, 1, 2, 3, 4, 5, 6, 7, 8, 9, 10, 16, 17, 32, 33, 64, 65, 999, 9999, -1, -2, -3, -4, -33, -999,
 ];
 
+/// Counts of a two-way rule that are in range, though a sum of them is not.
+const SUMS: &[[i32; 3]] = &[[2, 2, 0], [2, 2, 1], [2, 2, 2], [2, 1, 2]];
+
 pub fn damaged(random: &mut Random, sheet: &[u8]) -> Vec<u8> {
-    match random.below(10) {
+    match random.below(12) {
         0..=2 => bytes(random, sheet),
         3..=4 => lines(random, sheet),
         5 => blanks(random, sheet),
+        6..=7 => two_way(random, sheet).unwrap_or_else(|| bytes(random, sheet)),
         _ => columns(random, sheet).unwrap_or_else(|| bytes(random, sheet)),
     }
 }
@@ -131,22 +135,81 @@ fn columns(random: &mut Random, sheet: &[u8]) -> Option<Vec<u8>> {
     Some(lines.concat())
 }
 
+/// Damage to one line of kind 8, or to a rule that becomes one: other counts, another kind, another order of lines.
+/// Nothing if there is none.
+fn two_way(random: &mut Random, sheet: &[u8]) -> Option<Vec<u8>> {
+    let mut lines = rows::lines(sheet);
+    let rules: Vec<usize> = (0..lines.len())
+        .filter(|&place| [Some(3), Some(8)].contains(&kind(&lines[place])))
+        .collect();
+    let two_ways: Vec<usize> = rules
+        .iter()
+        .copied()
+        .filter(|&place| kind(&lines[place]) == Some(8))
+        .collect();
+    if two_ways.is_empty() || random.percent(10) {
+        let here = *rules.get(random.below(rules.len().max(1)))?;
+        put_numbers(&mut lines[here], 0, &[8]);
+        return Some(lines.concat());
+    }
+    let here = *random.pick(&two_ways);
+    match random.below(8) {
+        0 => put_numbers(&mut lines[here], 0, &[3]),
+        1 => {
+            let line = lines.remove(here);
+            lines.push(line);
+        }
+        2 => lines.insert(here + 1, b"   2   1\n".to_vec()),
+        3..=4 => put_numbers(&mut lines[here], 1, &random.pick(SUMS)[..]),
+        5 => put_numbers(
+            &mut lines[here],
+            1,
+            &[0; 3].map(|_| random.below(5) as i32 - 1),
+        ),
+        _ => {
+            let place = random.between(1, 3);
+            put_numbers(&mut lines[here], place, &[*random.pick(&[-1, 0, 1, 2, 3])]);
+        }
+    }
+    Some(lines.concat())
+}
+
+fn kind(line: &[u8]) -> Option<i32> {
+    let columns: Vec<&[u8]> = text(line).chunks_exact(4).collect();
+    numbers(&columns).first().map(|&(_, kind)| kind)
+}
+
+/// Writes numbers over the filled columns from a place on, as many as there are.
+fn put_numbers(line: &mut [u8], from: usize, new: &[i32]) {
+    let columns: Vec<&[u8]> = text(line).chunks_exact(4).collect();
+    let old = numbers(&columns);
+    for (&(place, _), &value) in old.iter().skip(from).zip(new) {
+        line[4 * place..4 * place + 4].copy_from_slice(&number(value));
+    }
+}
+
+/// The places and numbers of the filled columns that hold one.
+fn numbers(columns: &[impl AsRef<[u8]>]) -> Vec<(usize, i32)> {
+    let number = |(place, bytes): (usize, _)| match column(AsRef::as_ref(bytes)) {
+        Column::Number(value) => Some((place, value)),
+        _ => None,
+    };
+    columns.iter().enumerate().filter_map(number).collect()
+}
+
 fn number(value: i32) -> Vec<u8> {
     format!("{value:>4}").into_bytes()
 }
 
-/// One more or one less of what the line counts: the first or second number behind the kind.
+/// One more or one less of what the line counts: one of the first numbers behind the kind.
 fn count_off(random: &mut Random, columns: &mut [Vec<u8>]) {
-    let numbers: Vec<(usize, i32)> = columns
-        .iter()
-        .enumerate()
-        .filter_map(|(place, bytes)| match column(bytes) {
-            Column::Number(value) => Some((place, value)),
-            _ => None,
-        })
-        .collect();
+    let numbers = numbers(columns);
+    let counts = match numbers.first() {
+        Some((_, 8)) => 3,
+        _ => 2,
+    };
     if numbers.len() > 1 {
-        let (place, value) = numbers[1 + random.below(2.min(numbers.len() - 1))];
+        let (place, value) = numbers[1 + random.below(counts.min(numbers.len() - 1))];
         columns[place] = number(value + *random.pick(&[-1, 1]));
     }
 }

@@ -1,6 +1,6 @@
 //! Random sheets of many shapes, small enough that their meaning can be enumerated, with budgets and
-//! rooms; some of them to be exported. One sheet in three gets blank columns, and one in four or so is
-//! damaged afterwards.
+//! rooms; some of them to be exported. Two-way rules stand among the rules in many. One sheet in three gets
+//! blank columns, and one in four or so is damaged afterwards.
 
 use crate::blanks;
 use crate::case::Case;
@@ -9,6 +9,7 @@ use crate::export::EXPORT;
 use crate::random::Random;
 use crate::reader::{ROOM, SHEET};
 use crate::rows::{clause, negated, rule, text, Row};
+use crate::two_way;
 
 /// The share of sheets that are exported, in percent: the export searches once more.
 const EXPORTED: usize = 35;
@@ -43,9 +44,10 @@ fn sheet(random: &mut Random) -> (Vec<u8>, bool) {
         140..=199 => (text(&wide(random)), false),
         200..=399 => (text(&tight(random)), false),
         400..=599 => (text(&order(random)), false),
-        600..=999 => (text(&derived(random)), false),
-        1000..=1099 => (text(&joins(random)), false),
-        1100..=1299 => (text(&heads_alike(random)), false),
+        600..=899 => (text(&derived(random)), false),
+        900..=999 => (text(&joins(random)), false),
+        1000..=1199 => (text(&heads_alike(random)), false),
+        1200..=1649 => (text(&rewriting(random)), false),
         _ => (text(&general(random)), false),
     }
 }
@@ -93,6 +95,10 @@ pub struct Style {
     pub heads_alike: usize,
     /// The rules whose heads stay as they come, so that question 14 turns some away.
     pub unmended: usize,
+    /// Two-way rules among the rules.
+    pub two_ways: usize,
+    /// The two-way rules with a reverse that are drawn as that one: it fires more often then.
+    pub reversed: usize,
 }
 
 impl Style {
@@ -124,6 +130,8 @@ pub fn any_style(random: &mut Random, constants: usize, arities: Vec<usize>) -> 
         constant_terms: 12,
         heads_alike: 12,
         unmended: 4,
+        two_ways: *random.pick(&[0, 0, 25, 60]),
+        reversed: 50,
     }
 }
 
@@ -156,7 +164,7 @@ fn pattern(
     row
 }
 
-fn variables_of(literals: &[Row]) -> Vec<i32> {
+pub fn variables_of(literals: &[Row]) -> Vec<i32> {
     literals
         .iter()
         .flat_map(|literal| literal[1..].iter().copied())
@@ -165,7 +173,7 @@ fn variables_of(literals: &[Row]) -> Vec<i32> {
 }
 
 /// Does the head at this place share a variable with another?
-fn connected(heads: &[Row], place: usize) -> bool {
+pub fn connected(heads: &[Row], place: usize) -> bool {
     let own = variables_of(&heads[place..=place]);
     let others = [&heads[..place], &heads[place + 1..]].concat();
     variables_of(&others).iter().any(|name| own.contains(name))
@@ -205,13 +213,33 @@ fn put_term(random: &mut Random, literal: &mut Row, term: i32) {
     literal[place] = term;
 }
 
+/// A line of kind 3 or 8.
 pub fn random_rule(random: &mut Random, style: &Style) -> Row {
+    if random.percent(style.two_ways) {
+        return two_way::random_two_way(random, style);
+    }
     let head_count = *random.pick(&[1, 1, 1, 2, 2, 2, 2, 3, 3]);
     rule_with(random, style, head_count)
 }
 
-/// A rule: few variables of any numbers, so that gaps and other orders come up.
 fn rule_with(random: &mut Random, style: &Style, head_count: usize) -> Row {
+    let body_count = if random.percent(style.false_bodies) {
+        0
+    } else {
+        *random.pick(&[0, 1, 1, 1, 1, 2, 2])
+    };
+    let (heads, body) = heads_and_body(random, style, head_count, body_count);
+    rule(&heads, &body)
+}
+
+/// The literals of a rule: few variables of any numbers, so that gaps and other orders come up. Where no symbol has
+/// arguments there is one head, however many are asked for.
+pub fn heads_and_body(
+    random: &mut Random,
+    style: &Style,
+    head_count: usize,
+    body_count: usize,
+) -> (Vec<Row>, Vec<Row>) {
     let mut names: Vec<i32> = (1..=6).collect();
     random.shuffle(&mut names);
     let most = match style.constants {
@@ -243,21 +271,19 @@ fn rule_with(random: &mut Random, style: &Style, head_count: usize) -> Row {
     }
     let bound = variables_of(&heads);
     let mut body = Vec::new();
-    if !random.percent(style.false_bodies) {
-        for _ in 0..*random.pick(&[0, 1, 1, 1, 1, 2, 2]) {
-            let literal = match random.below(100) {
-                0..=9 => negated(random.pick(&heads)),
-                10..=12 => random.pick(&heads).clone(),
-                // Question 12, more often where 14 may be broken too.
-                13..=17 if unmended || random.one_in(1, 20) => {
-                    pattern(random, style, &style.bodies, 20, &[1, 2, 3, 4, 5, 6])
-                }
-                _ => pattern(random, style, &style.bodies, style.negated_bodies, &bound),
-            };
-            body.push(literal);
-        }
+    for _ in 0..body_count {
+        let literal = match random.below(100) {
+            0..=9 => negated(random.pick(&heads)),
+            10..=12 => random.pick(&heads).clone(),
+            // Question 12, more often where 14 may be broken too.
+            13..=17 if unmended || random.one_in(1, 20) => {
+                pattern(random, style, &style.bodies, 20, &[1, 2, 3, 4, 5, 6])
+            }
+            _ => pattern(random, style, &style.bodies, style.negated_bodies, &bound),
+        };
+        body.push(literal);
     }
-    rule(&heads, &body)
+    (heads, body)
 }
 
 pub fn random_atom(
@@ -495,9 +521,49 @@ fn heads_alike(random: &mut Random) -> Vec<Row> {
             (1..=5).collect()
         };
         let head_count = *random.pick(&[1, 2, 2, 3, 3]);
-        rows.push(rule_with(random, &style, head_count));
+        rows.push(if random.percent(style.two_ways / 2) {
+            two_way::random_two_way(random, &style)
+        } else {
+            rule_with(random, &style, head_count)
+        });
     }
     rows.extend(few_clauses(random, &style, &goal));
+    rows
+}
+
+/// Two-way rules between symbols that the clauses speak of and others, most with their reverse, among a few rules:
+/// what one of them creates fires others, forwards and in reverse.
+fn rewriting(random: &mut Random) -> Vec<Row> {
+    let constants = *random.pick(&[1, 1, 2, 2, 3]);
+    let (goal, others) = ([1, 2, 3], [4, 5, 6]);
+    let mut arities = vec![1; 6];
+    arities[2] = *random.pick(&[0, 1, 2]);
+    arities[5] = *random.pick(&[0, 1, 2]);
+    let mut style = any_style(random, constants, arities);
+    style.negated_heads = *random.pick(&[0, 5, 20]);
+    style.negated_bodies = *random.pick(&[0, 20, 40]);
+    style.false_bodies = 10;
+    style.two_ways = *random.pick(&[60, 100]);
+    style.reversed = 80;
+    let mut rows = style.rows();
+    for _ in 0..random.between(2, 8) {
+        (style.heads, style.bodies) = match random.below(4) {
+            0..=1 => (goal.to_vec(), others.to_vec()),
+            2 => (goal.to_vec(), (1..=6).collect()),
+            _ => ((1..=6).collect(), (1..=6).collect()),
+        };
+        rows.push(random_rule(random, &style));
+    }
+    let atoms = style.atoms(random, 3, 8, &goal);
+    for atom in &atoms {
+        if random.percent(50) {
+            rows.push(clause(std::slice::from_ref(atom)));
+        }
+    }
+    let negated_share = *random.pick(&[10, 30, 50]);
+    for _ in 0..random.between(1, 5) {
+        rows.push(random_clause(random, &atoms, 5, negated_share));
+    }
     rows
 }
 
@@ -601,18 +667,24 @@ fn log_limit(random: &mut Random) -> Vec<Row> {
 fn sheet_limits(random: &mut Random) -> Vec<Row> {
     let constants = random.between(1, 32);
     let mut rows = vec![vec![1, constants as i32]];
-    let which = *random.pick(&[0, 0, 1, 1, 2, 2, 3, 3, 3, 3, 4, 5]);
+    let which = *random.pick(&[0, 0, 1, 1, 1, 1, 2, 2, 3, 3, 3, 3, 4, 5]);
     match which {
         0 => {
             rows.extend((0..random.between(15, 17)).map(|_| vec![2, random.below(4) as i32]));
         }
         1 => {
             rows.extend([vec![2, 0], vec![2, 1], vec![2, 1]]);
-            for number in 1..=random.between(31, 33) {
+            let most = random.between(31, 33);
+            let two_ways = *random.pick(&[0, 20, 60, 100]);
+            let mut counted = 0;
+            while counted < most {
                 let mut style = any_style(random, constants.min(3), vec![0, 1, 1]);
+                style.two_ways = two_ways;
                 // One rule too many is turned away for that, however its heads are.
-                style.unmended = if number == 33 { 60 } else { 0 };
-                rows.push(random_rule(random, &style));
+                style.unmended = if counted == 32 { 60 } else { 0 };
+                let row = random_rule(random, &style);
+                counted += two_way::counted(&row);
+                rows.push(row);
             }
         }
         2 => {

@@ -15,6 +15,8 @@ use crate::rows::{lines, rows, text, Row};
 const ATOMS: usize = 14;
 /// The share of larger sheets with blank columns, in percent.
 const BLANKS: usize = 50;
+/// The kinds of the lines that rules stand in, in any order among each other.
+const RULES: [i32; 2] = [3, 8];
 
 /// What came of a larger sheet.
 #[derive(Default)]
@@ -22,30 +24,26 @@ pub struct Outcome {
     pub calls: u64,
     pub enumerated: bool,
     pub other_blanks: bool,
+    /// A two-way rule stands at another place among the rules.
+    pub two_way_moved: bool,
 }
 
 /// A sheet that keeps the given accepted one, with more besides, in another order and often with other blank
 /// columns. Nothing if it would be refused, at a limit or at a rule that came besides.
 pub fn larger(random: &mut Random, sheet: &[u8]) -> Option<Vec<u8>> {
     let first = rows(sheet)?;
-    let of_kind = |kind: i32| {
-        first
-            .iter()
-            .filter(|row| row[0] == kind)
-            .cloned()
-            .collect::<Vec<Row>>()
-    };
     let constants = first[0][1] as usize;
     let more_constants = if random.percent(50) {
         constants
     } else {
         (constants + random.between(1, 2)).min(32)
     };
-    let mut arities: Vec<usize> = of_kind(2).iter().map(|row| row[1] as usize).collect();
+    let symbols = of_kinds(&first, &[2]);
+    let mut arities: Vec<usize> = symbols.iter().map(|row| row[1] as usize).collect();
     for _ in 0..random.below(3) {
         arities.push(random.below(3));
     }
-    let (mut rules, mut clauses) = (of_kind(3), of_kind(4));
+    let (mut rules, mut clauses) = (of_kinds(&first, &RULES), of_kinds(&first, &[4]));
     // The lines count as a set: a line that stands twice may stand once.
     if random.percent(50) {
         once(&mut rules);
@@ -80,6 +78,22 @@ pub fn larger(random: &mut Random, sheet: &[u8]) -> Option<Vec<u8>> {
     reader::read(&second, ROOM).is_ok().then_some(second)
 }
 
+fn of_kinds(rows: &[Row], kinds: &[i32]) -> Vec<Row> {
+    let mut rows = rows.to_vec();
+    rows.retain(|row| kinds.contains(&row[0]));
+    rows
+}
+
+/// Has a line of kind 8 another one's place among the rules? A rule that came before it may be gone.
+fn two_way_moved(first: &[u8], second: &[u8]) -> bool {
+    let rules = |sheet| rows(sheet).map(|rows| of_kinds(&rows, &RULES));
+    let (Some(first), Some(second)) = (rules(first), rules(second)) else {
+        return false;
+    };
+    let mut pairs = first.iter().zip(&second);
+    pairs.any(|(one, other)| one[0] == 8 && one != other)
+}
+
 /// Is a line kept, but with other blank columns? All behind the first are kept; then one isn't there in its bytes.
 fn other_blanks(first: &[u8], second: &[u8]) -> bool {
     let (first, second) = (lines(first), lines(second));
@@ -99,14 +113,8 @@ fn once(rows: &mut Vec<Row>) {
 /// Does the second sheet keep the first one's constants, symbols, rules and clauses? Of a line only the filled
 /// columns count.
 fn keeps(first: &[Row], second: &[Row]) -> bool {
-    let of_kind = |rows: &[Row], kind: i32| {
-        rows.iter()
-            .filter(|row| row[0] == kind)
-            .cloned()
-            .collect::<Vec<Row>>()
-    };
     first[0][1] <= second[0][1]
-        && of_kind(second, 2).starts_with(&of_kind(first, 2))
+        && of_kinds(second, &[2]).starts_with(&of_kinds(first, &[2]))
         && first
             .iter()
             .filter(|row| row[0] >= 3)
@@ -121,6 +129,7 @@ pub fn check_larger(
 ) -> Result<Outcome, (Case, Vec<String>)> {
     let mut outcome = Outcome {
         other_blanks: other_blanks(first, second),
+        two_way_moved: two_way_moved(first, second),
         ..Outcome::default()
     };
     for budget in [0, 1 + random.below(6) as u32, 1_000_000] {

@@ -1,6 +1,7 @@
-//! What requests 3 and 5 speak of, and how many calls met it.
+//! What requests 3, 5 and 7 speak of, and how many calls met it.
 
 use crate::blanks::{places, text, BLANK};
+use crate::met_two_way::MetTwoWay;
 use crate::reader::{Refusal, LINE};
 use crate::rows::lines;
 use crate::search::Events;
@@ -22,6 +23,7 @@ pub struct Met {
     repeated_and_body: u64,
     repeated_sets: u64,
     repeated_passed_over: u64,
+    pub two_way: MetTwoWay,
 }
 
 impl Met {
@@ -51,6 +53,7 @@ impl Met {
         let Some(index) = (refusal.line as usize).checked_sub(1) else {
             return;
         };
+        self.two_way.count_refused(&lines[..=index], refusal);
         let (line, text) = (&lines[index], text(&lines[index]));
         match refusal.number {
             5 => self.too_long += u64::from(text.len() == LINE + 4 && has_blank(line)),
@@ -60,8 +63,8 @@ impl Met {
         }
     }
 
-    pub fn named(&self) -> [(&'static str, u64); 15] {
-        [
+    pub fn named(&self) -> Vec<(&'static str, u64)> {
+        let mut all = vec![
             ("sheet with blank columns answered", self.answered),
             ("blank column before the kind", self.before),
             ("blank column between others", self.between),
@@ -89,7 +92,9 @@ impl Met {
                 "created atom not set by a clause with a repeated head",
                 self.repeated_passed_over,
             ),
-        ]
+        ];
+        all.extend(self.two_way.named());
+        all
     }
 }
 

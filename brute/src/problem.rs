@@ -1,4 +1,5 @@
-//! What an accepted sheet says: symbols, rules and clauses, in the words of document 01.
+//! What an accepted sheet says: symbols, rules and clauses, in the words of document 01; two-way rules, in those of
+//! request 7.
 
 /// A symbol with constants. Symbols and constants count from 1; places behind the arity are 0.
 #[derive(Clone, Copy, PartialEq, Eq, Debug)]
@@ -83,6 +84,16 @@ impl Rule {
             .collect()
     }
 
+    /// Does each body variable stand in the head?
+    pub fn range_restricted(&self) -> bool {
+        let in_some = |literals: &[Pattern], variable| {
+            literals
+                .iter()
+                .any(|literal| literal.holds_variable(variable))
+        };
+        (1..=6).all(|variable| !in_some(&self.body, variable) || in_some(&self.heads, variable))
+    }
+
     /// Does each of several heads share a variable with another one? A single head needs no other.
     pub fn heads_connected(&self) -> bool {
         let connected = |place: usize| {
@@ -95,10 +106,72 @@ impl Rule {
     }
 }
 
+/// What a line of kind 8 says: where the kept heads hold, the rewritten ones all hold exactly if the body does; an
+/// empty body means false.
+#[derive(Clone, Debug)]
+pub struct TwoWay {
+    pub kept: Vec<Pattern>,
+    pub rewritten: Vec<Pattern>,
+    pub body: Vec<Pattern>,
+}
+
+impl TwoWay {
+    pub fn forward(&self) -> Rule {
+        Rule {
+            heads: [&self.kept[..], &self.rewritten].concat(),
+            body: self.body.clone(),
+        }
+    }
+
+    /// The reverse reading, whether or not it is a rule.
+    pub fn reverse(&self) -> Rule {
+        Rule {
+            heads: [&self.kept[..], &self.body].concat(),
+            body: self.rewritten.clone(),
+        }
+    }
+
+    pub fn has_reverse(&self) -> bool {
+        let reverse = self.reverse();
+        !self.body.is_empty() && reverse.range_restricted() && reverse.heads_connected()
+    }
+}
+
+/// What a line of kind 3 or 8 says.
+#[derive(Clone, Debug)]
+pub enum RuleLine {
+    One(Rule),
+    Two(TwoWay),
+}
+
+impl RuleLine {
+    /// The rules that the line stands for, in the order in which they are numbered.
+    pub fn rules(&self) -> Vec<Rule> {
+        match self {
+            RuleLine::One(rule) => vec![rule.clone()],
+            RuleLine::Two(two_way) if two_way.has_reverse() => {
+                vec![two_way.forward(), two_way.reverse()]
+            }
+            RuleLine::Two(two_way) => vec![two_way.forward()],
+        }
+    }
+
+    /// What the line counts as at question 9: two rules if it has a way back, even where the reverse is not there.
+    fn counted(&self) -> usize {
+        match self {
+            RuleLine::Two(two_way) if !two_way.body.is_empty() => 2,
+            _ => 1,
+        }
+    }
+}
+
 #[derive(Clone, Debug, Default)]
 pub struct Problem {
     pub constants: usize,
     pub arities: Vec<usize>,
+    /// The lines of kinds 3 and 8: what an assignment has to satisfy.
+    pub rule_lines: Vec<RuleLine>,
+    /// The rules that they stand for, by number: what the search works on.
     pub rules: Vec<Rule>,
     pub clauses: Vec<Vec<Literal>>,
     /// The atoms of the clauses in order of first appearance.
@@ -106,6 +179,16 @@ pub struct Problem {
 }
 
 impl Problem {
+    pub fn add_rule_line(&mut self, line: RuleLine) {
+        self.rules.extend(line.rules());
+        self.rule_lines.push(line);
+    }
+
+    /// The rules as question 9 counts them.
+    pub fn rules_counted(&self) -> usize {
+        self.rule_lines.iter().map(RuleLine::counted).sum()
+    }
+
     pub fn add_clause(&mut self, clause: Vec<Literal>) {
         for literal in &clause {
             if !self.goal_atoms.contains(&literal.atom) {

@@ -1,7 +1,7 @@
 //! The reader of sheets: questions 1 to 14 of documents 01 and 02, asked in order, with 14 between 12
 //! and 13. Blank columns are passed over, so that from 7 on there are filled ones only.
 
-use crate::problem::{Atom, Literal, Pattern, Problem, Rule, Term};
+use crate::problem::{Atom, Literal, Pattern, Problem, Rule, RuleLine, Term, TwoWay};
 
 /// The room that question 1 asks for.
 pub const ROOM: usize = 45_056;
@@ -37,10 +37,10 @@ pub fn read(sheet: &[u8], room: usize) -> Result<Problem, Refusal> {
         return Err(call(3));
     }
     let mut problem = Problem::default();
-    let mut kind_before = None;
+    let mut rank_before = None;
     for (index, line) in sheet.split_inclusive(|&byte| byte == b'\n').enumerate() {
-        match read_line(line, kind_before, &mut problem) {
-            Ok(kind) => kind_before = Some(kind),
+        match read_line(line, rank_before, &mut problem) {
+            Ok(rank) => rank_before = Some(rank),
             Err(number) => {
                 return Err(Refusal {
                     number,
@@ -52,8 +52,8 @@ pub fn read(sheet: &[u8], room: usize) -> Result<Problem, Refusal> {
     Ok(problem)
 }
 
-/// Questions 4 to 14 of one line. Hands back its kind, or the number of the first no.
-fn read_line(line: &[u8], kind_before: Option<i32>, problem: &mut Problem) -> Result<i32, u64> {
+/// Questions 4 to 14 of one line. Hands back its kind's rank, or the number of the first no.
+fn read_line(line: &[u8], rank_before: Option<i32>, problem: &mut Problem) -> Result<i32, u64> {
     let Some((b'\n', text)) = line.split_last() else {
         return Err(4);
     };
@@ -64,9 +64,11 @@ fn read_line(line: &[u8], kind_before: Option<i32>, problem: &mut Problem) -> Re
     let columns = filled(text).ok_or(6u64)?;
     // A line of blanks has no kind, so none that fits.
     let kind = *columns.first().ok_or(7u64)?;
-    let kind_fits = match kind_before {
+    // Two-way rules stand among the rules, in any order.
+    let rank = if kind == 8 { 3 } else { kind };
+    let kind_fits = match rank_before {
         None => kind == 1,
-        Some(before) => (2..=4).contains(&kind) && kind >= before,
+        Some(before) => (2..=4).contains(&rank) && rank >= before,
     };
     if !kind_fits {
         return Err(7);
@@ -75,9 +77,10 @@ fn read_line(line: &[u8], kind_before: Option<i32>, problem: &mut Problem) -> Re
         1 => constants_line(&columns, problem)?,
         2 => symbol_line(&columns, problem)?,
         3 => rule_line(&columns, problem)?,
+        8 => two_way_line(&columns, problem)?,
         _ => clause_line(&columns, problem)?,
     }
-    Ok(kind)
+    Ok(rank)
 }
 
 /// The numbers of a line's filled columns, if no column is a fault.
@@ -145,39 +148,70 @@ fn symbol_line(columns: &[i32], problem: &mut Problem) -> Result<(), u64> {
 fn rule_line(columns: &[i32], problem: &mut Problem) -> Result<(), u64> {
     let head_count = number(columns, 1, 1, 3)?;
     let body_count = number(columns, 2, 0, 2)?;
-    if problem.rules.len() == 32 {
+    room_for_rules(1, problem)?;
+    let [heads, body] = patterns(columns, 3, [head_count, body_count], problem)?;
+    let rule = Rule { heads, body };
+    variables_fit(&rule)?;
+    problem.add_rule_line(RuleLine::One(rule));
+    Ok(())
+}
+
+fn two_way_line(columns: &[i32], problem: &mut Problem) -> Result<(), u64> {
+    let kept_count = number(columns, 1, 0, 2)?;
+    let rewritten_count = number(columns, 2, 1, 2)?;
+    let body_count = number(columns, 3, 0, 2)?;
+    if kept_count + rewritten_count > 3 || kept_count + body_count > 3 {
+        return Err(8);
+    }
+    // Whether the reverse is there makes no difference here.
+    room_for_rules(if body_count > 0 { 2 } else { 1 }, problem)?;
+    let counts = [kept_count, rewritten_count, body_count];
+    let [kept, rewritten, body] = patterns(columns, 4, counts, problem)?;
+    let two_way = TwoWay {
+        kept,
+        rewritten,
+        body,
+    };
+    variables_fit(&two_way.forward())?;
+    problem.add_rule_line(RuleLine::Two(two_way));
+    Ok(())
+}
+
+/// Question 9 of a line that counts as so many rules.
+fn room_for_rules(more: usize, problem: &Problem) -> Result<(), u64> {
+    if problem.rules_counted() + more > 32 {
         return Err(9);
     }
-    let mut place = 3;
-    let mut patterns = Vec::new();
-    for _ in 0..head_count + body_count {
-        patterns.push(pattern(columns, &mut place, problem)?);
+    Ok(())
+}
+
+/// Questions 10 and 11 of a line whose literals begin at a place: so many of each part.
+fn patterns<const PARTS: usize>(
+    columns: &[i32],
+    mut place: usize,
+    counts: [usize; PARTS],
+    problem: &Problem,
+) -> Result<[Vec<Pattern>; PARTS], u64> {
+    let mut parts = [const { Vec::new() }; PARTS];
+    for (part, count) in parts.iter_mut().zip(counts) {
+        for _ in 0..count {
+            part.push(pattern(columns, &mut place, problem)?);
+        }
     }
     if place < columns.len() {
         return Err(11);
     }
-    let body = patterns.split_off(head_count);
-    let rule = Rule {
-        heads: patterns,
-        body,
-    };
-    for variable in 1..=6 {
-        let in_body = rule
-            .body
-            .iter()
-            .any(|literal| literal.holds_variable(variable));
-        let in_head = rule
-            .heads
-            .iter()
-            .any(|literal| literal.holds_variable(variable));
-        if in_body && !in_head {
-            return Err(12);
-        }
+    Ok(parts)
+}
+
+/// Questions 12 and 14.
+fn variables_fit(rule: &Rule) -> Result<(), u64> {
+    if !rule.range_restricted() {
+        return Err(12);
     }
     if !rule.heads_connected() {
         return Err(14);
     }
-    problem.rules.push(rule);
     Ok(())
 }
 

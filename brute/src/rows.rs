@@ -35,10 +35,19 @@ pub fn rows(sheet: &[u8]) -> Option<Vec<Row>> {
         .collect()
 }
 
-/// The literals of a rule or clause row as rows of their own, if its columns allow it.
+/// The columns before the literals: the kind and the counts.
+pub fn front(row: &[i32]) -> Option<&[i32]> {
+    let length = match row.first()? {
+        3 => 3,
+        8 => 4,
+        _ => 2,
+    };
+    row.get(..length)
+}
+
+/// The literals of a rule, two-way rule or clause row as rows of their own, if its columns allow it.
 pub fn literals(row: &[i32], arities: &[i32]) -> Option<Vec<Row>> {
-    let counts = if row.first() == Some(&3) { 3 } else { 2 };
-    let mut rest = row.get(counts..)?;
+    let mut rest = &row[front(row)?.len()..];
     let mut literals = Vec::new();
     while let Some(&symbol) = rest.first() {
         let arity = *arities.get((symbol.unsigned_abs() as usize).checked_sub(1)?)?;
@@ -52,6 +61,14 @@ pub fn literals(row: &[i32], arities: &[i32]) -> Option<Vec<Row>> {
 pub fn rule(heads: &[Row], body: &[Row]) -> Row {
     let mut row = vec![3, heads.len() as i32, body.len() as i32];
     row.extend(heads.iter().chain(body).flatten());
+    row
+}
+
+pub fn two_way(kept: &[Row], rewritten: &[Row], body: &[Row]) -> Row {
+    let counts = [kept.len(), rewritten.len(), body.len()];
+    let mut row = vec![8];
+    row.extend(counts.map(|count| count as i32));
+    row.extend(kept.iter().chain(rewritten).chain(body).flatten());
     row
 }
 

@@ -7,7 +7,7 @@ use crate::check::check;
 use crate::export::EXPORT;
 use crate::reader::ROOM;
 use crate::reading;
-use crate::rows::{clause, line, lines, literals, rows, rule, Row};
+use crate::rows::{clause, front, line, lines, literals, rows, rule, two_way, Row};
 use std::time::{Duration, Instant};
 
 /// A sheet near the limits of the search may take long; the smallest one so far has to do then.
@@ -231,25 +231,46 @@ fn simpler_rows(rows: &[Row]) -> Vec<Vec<Row>> {
     all
 }
 
-/// A rule or clause less one of its literals, with the count that fits.
+/// A rule, two-way rule or clause less one of its literals, with the counts that fit; of a two-way rule also each
+/// of its readings, as a rule.
 fn without_literal(row: &[i32], arities: &[i32]) -> Vec<Row> {
-    let Some(all) = literals(row, arities) else {
+    let (Some(all), Some(front)) = (literals(row, arities), front(row)) else {
         return Vec::new();
     };
+    if !matches!(row[0], 3 | 4 | 8) {
+        return Vec::new();
+    }
+    let parts = split(&all, &front[1..]);
     let mut smaller = Vec::new();
-    for place in 0..all.len() {
-        let mut rest = all.clone();
-        rest.remove(place);
-        match (row[0], usize::try_from(row[1])) {
-            (4, Ok(count)) if count == all.len() => smaller.push(clause(&rest)),
-            (3, Ok(heads)) if heads <= all.len() => {
-                let heads = if place < heads { heads - 1 } else { heads };
-                smaller.push(rule(&rest[..heads], &rest[heads..]));
-            }
-            _ => (),
+    if let [kept, rewritten, body] = &parts[..] {
+        smaller.push(rule(&[&kept[..], rewritten].concat(), body));
+        smaller.push(rule(&[&kept[..], body].concat(), rewritten));
+    }
+    for part in 0..parts.len() {
+        for place in 0..parts[part].len() {
+            let mut rest = parts.clone();
+            rest[part].remove(place);
+            smaller.push(match &rest[..] {
+                [kept, rewritten, body] => two_way(kept, rewritten, body),
+                [heads, body] => rule(heads, body),
+                _ => clause(&rest.concat()),
+            });
         }
     }
     smaller
+}
+
+/// The literals in parts of so many, as far as there are any; what is left over is in the last part.
+fn split(literals: &[Row], counts: &[i32]) -> Vec<Vec<Row>> {
+    let mut rest = literals.iter().cloned();
+    let mut parts: Vec<Vec<Row>> = counts
+        .iter()
+        .map(|&count| rest.by_ref().take(count.max(0) as usize).collect())
+        .collect();
+    if let Some(last) = parts.last_mut() {
+        last.extend(rest);
+    }
+    parts
 }
 
 /// The sheet without a symbol that no literal uses, the later ones renumbered. Its row becomes an empty one.
@@ -266,7 +287,7 @@ fn without_symbol(rows: &[Row], arities: &[i32], symbol: i32) -> Option<Vec<Row>
                     row.clone()
                 });
             }
-            3 | 4 => {
+            3 | 4 | 8 => {
                 let mut all = literals(row, arities)?;
                 if all.iter().any(|literal| literal[0].abs() == symbol) {
                     return None;
@@ -276,8 +297,7 @@ fn without_symbol(rows: &[Row], arities: &[i32], symbol: i32) -> Option<Vec<Row>
                         literal[0] -= literal[0].signum();
                     }
                 }
-                let counts = if row[0] == 3 { 3 } else { 2 };
-                let mut row = row[..counts].to_vec();
+                let mut row = front(row)?.to_vec();
                 row.extend(all.into_iter().flatten());
                 smaller.push(row);
             }

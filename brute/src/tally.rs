@@ -2,6 +2,7 @@
 
 use crate::case::Case;
 use crate::check::Same;
+use crate::equivalence;
 use crate::export;
 use crate::larger;
 use crate::met::Met;
@@ -25,11 +26,13 @@ pub struct Tally {
     refusals: [u64; 16],
     events: Events,
     met: Met,
+    two_ways: equivalence::Outcome,
     /// Sheets that no call told from one with other blank columns.
     pub alike: u64,
     larger_sheets: u64,
     larger_calls: u64,
     larger_other_blanks: u64,
+    larger_two_way_moved: u64,
     enumerated: u64,
     exports: u64,
     texts: u64,
@@ -48,13 +51,18 @@ impl Tally {
                 self.count_export(case, Some(*refusal));
             }
             Same::Ended {
+                problem,
                 ended,
                 events: new,
                 by_meaning,
+                two_ways,
             } => {
                 self.answers[ended.verdict as usize] += 1;
                 self.met.count_answered(&case.sheet);
                 self.met.count_events(new);
+                self.met.two_way.count_answered(problem, ended);
+                self.two_ways.tried += two_ways.tried;
+                self.two_ways.says_more += two_ways.says_more;
                 self.by_meaning += u64::from(*by_meaning);
                 let sum = &mut self.events;
                 sum.backwards += new.backwards;
@@ -95,6 +103,7 @@ impl Tally {
         self.larger_calls += outcome.calls;
         self.enumerated += u64::from(outcome.enumerated);
         self.larger_other_blanks += u64::from(outcome.other_blanks);
+        self.larger_two_way_moved += u64::from(outcome.two_way_moved);
     }
 
     fn named(&self) -> Vec<(String, u64)> {
@@ -104,7 +113,7 @@ impl Tally {
             .map(|(name, count)| (name.to_string(), count))
             .collect();
         all.extend((1..16).map(|number| (format!("refusal {number}"), self.refusals[number])));
-        let met = self.met.named();
+        let met = self.met.named().into_iter();
         all.extend(met.map(|(name, count)| (name.to_string(), count)));
         let events = &self.events;
         for (name, count) in [
@@ -123,12 +132,24 @@ impl Tally {
             ("FULL by the log", events.full_log),
             ("created atom unset in the end", events.created_unset),
             ("answer decided by the meaning", self.by_meaning),
+            (
+                "two-way rule with all assignments, against its rules",
+                self.two_ways.tried,
+            ),
+            (
+                "two-way rule that says more than its rules",
+                self.two_ways.says_more,
+            ),
             ("sheet with other blank columns, all the same", self.alike),
             ("larger sheet of an UNSAT one", self.larger_sheets),
             ("larger sheet with all its assignments", self.enumerated),
             (
                 "larger sheet that keeps a line with other blank columns",
                 self.larger_other_blanks,
+            ),
+            (
+                "larger sheet with a two-way rule at another place",
+                self.larger_two_way_moved,
             ),
             ("export", self.exports),
             ("text read", self.read[0]),
