@@ -7,7 +7,7 @@ use lib.Dec.{leb}
 use lib.ListN.{length, getD, set, take, drop}
 use lib.Seq.{sets}
 use Rattle.definitions.specs.Lists.{joined}
-use Rattle.definitions.specs.Words.{Clause, Rule, TwoWay, RuleLine}
+use Rattle.definitions.specs.Words.{Clause, Rule, TwoWay, forward, RuleLine}
 use Rattle.definitions.specs.Sheet.{Number}
 use Rattle.definitions.specs.Questions.{Asked, no, yes, Parsed, RuleCounts, TwoWayCounts, rulesOf, reverseRules, countsAs}
 use Rattle.theory.specs.ListLaws.{Each}
@@ -55,11 +55,18 @@ abbrev pub CountsRead : Asked (Parsed RuleCounts) → RuleCounted → ℕ → Li
 CountsRead (no q) r n left = (r ≡ NoCounts) × (q ≡ 8)
 CountsRead (yes w) r n left = (r ≡ Counts (w .found .heads) (w .found .body)) × (w .left ≡ left) × (3 ≤ n) × (w .found .heads + w .found .body ≤ 5)
 
--- 10 to 12 and 14 of the literals behind: the question, or 0; then the slots hold the literals, and the rule stands at its place
-abbrev pub BehindRead : Asked Rule → ℕ → ℕ → List ℕ → List ℕ → List ℕ → List ℕ → Type 0
-BehindRead (no q) r place slots₀ slots₁ before after = (r ≡ q) × (q ≡ 0 → ⊥)
-BehindRead (yes x) r place slots₀ slots₁ before after =
-    (r ≡ 0) × (slots₁ ≡ sets slots₀ 0 (slotWords (x .heads ++ x .body))) × (32 ≤ length slots₀) × (after ≡ sets before (22 * place) (ruleWords x))
+-- a rule in slots: so many heads and body literals, put over what was there, each with room in its slot
+pub record RuleSlots (x : Rule) (h b : ℕ) (before slots : List ℕ) : Type 0 where
+  pub heads : length (x .heads) ≡ h
+  pub body : length (x .body) ≡ b
+  pub wide : 32 ≤ length before
+  pub words : slots ≡ sets before 0 (slotWords (x .heads ++ x .body))
+  pub inSlots : Each InSlot (x .heads ++ x .body)
+
+-- 10 to 12 and 14 of the literals behind: the question, or 0; then the rule stands in the slots and at its place
+abbrev pub BehindRead : Asked Rule → ℕ → ℕ → ℕ → ℕ → List ℕ → List ℕ → List ℕ → List ℕ → Type 0
+BehindRead (no q) h b r place slots₀ slots₁ before after = (r ≡ q) × (q ≡ 0 → ⊥)
+BehindRead (yes x) h b r place slots₀ slots₁ before after = (r ≡ 0) × RuleSlots x h b slots₀ slots₁ × (after ≡ sets before (22 * place) (ruleWords x))
 
 -- 7/14: question 8 of a line of kind 8, in the same way
 unfoldable pub twoWayCountsOf : ℕ → ℕ → ℕ → List Number → Parsed TwoWayCounts
@@ -71,15 +78,12 @@ TwoWayCountsRead (yes w) r n left =
     (r ≡ two.Counts (w .found .kept) (w .found .rewritten) (w .found .body)) × (w .left ≡ left) × (4 ≤ n)
     × (w .found .kept + w .found .rewritten ≤ 3) × (w .found .body ≤ 2)
 
--- the literals of a two-way rule in slots, in the order of its line
+-- a two-way rule in slots, in the order of its line: its forward rule, with so many heads kept
 pub record TwoWaySlots (t : TwoWay) (k r b : ℕ) (slots : List ℕ) : Type 0 where
   pub kept : length (t .kept) ≡ k
   pub rewritten : length (t .rewritten) ≡ r
-  pub body : length (t .body) ≡ b
   pub before : List ℕ
-  pub wide : 32 ≤ length before
-  pub words : slots ≡ sets before 0 (slotWords ((t .kept ++ t .rewritten) ++ t .body))
-  pub inSlots : Each InSlot ((t .kept ++ t .rewritten) ++ t .body)
+  pub rule : RuleSlots (forward t) (k + r) b before slots
 
 -- the same slots in the order of the reverse rule
 unfoldable pub turnedWords : ℕ → ℕ → ℕ → List ℕ → List ℕ
