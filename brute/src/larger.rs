@@ -84,7 +84,8 @@ fn of_kinds(rows: &[Row], kinds: &[i32]) -> Vec<Row> {
     rows
 }
 
-/// Has a line of kind 8 another one's place among the rules? A rule that came before it may be gone.
+/// Does another line stand, among the rules, at the place of a line of kind 8? All lines are kept, so that one has
+/// moved.
 fn two_way_moved(first: &[u8], second: &[u8]) -> bool {
     let rules = |sheet| rows(sheet).map(|rows| of_kinds(&rows, &RULES));
     let (Some(first), Some(second)) = (rules(first), rules(second)) else {

@@ -156,7 +156,8 @@ impl RuleLine {
         }
     }
 
-    /// What the line counts as at question 9: two rules if it has a way back, even where the reverse is not there.
+    /// What the line counts as at question 9: two rules for a two-way rule with a body, whether or not its reverse is
+    /// there, and otherwise one.
     fn counted(&self) -> usize {
         match self {
             RuleLine::Two(two_way) if !two_way.body.is_empty() => 2,

@@ -163,13 +163,15 @@ unfoldable pub rulesOf : RuleLine → List Rule
 rulesOf (oneWay r) = r ∷ []
 rulesOf (twoWay t) = standsFor t
 
--- what a line "counts as" at question 9: a two-way rule "as two rules, with an empty body as one", whether or not the reverse is there
-unfoldable pub bothWays : ℕ → ℕ
-bothWays body = elim (eqb body 0) [ true ↦ 1 | false ↦ 2 ]
+-- question 9 "counts as two rules" a two-way rule, "with an empty body as one", whether or not the reverse is there: by how many ways it
+-- can be read, with so many body literals
+unfoldable pub ways : ℕ → ℕ
+ways body = elim (eqb body 0) [ true ↦ 1 | false ↦ 2 ]
 
+-- what a line counts as there, and what lines do together
 unfoldable pub countsAs : RuleLine → ℕ
 countsAs (oneWay r) = 1
-countsAs (twoWay t) = bothWays (length (t .body))
+countsAs (twoWay t) = ways (length (t .body))
 
 unfoldable pub counted : List RuleLine → ℕ
 counted [] = 0
@@ -249,7 +251,7 @@ twoWayBehind constants arities counts = do
 unfoldable pub twoWayAsked : ℕ → List ℕ → ℕ → List Number → Asked TwoWay
 twoWayAsked constants arities rules ns = do
   counts ← twoWayCounts ns
-  ask 9 (leb (rules + bothWays (counts .found .body)) mostRules)
+  ask 9 (leb (rules + ways (counts .found .body)) mostRules)
   twoWayBehind constants arities counts
 
 -- 8: the count of a line of kind 4
@@ -372,5 +374,5 @@ read sheet =
 
 -- names every definition of this module, for a theorem that computes with all of them
 unfoldable pub Questions·all : Unit {0}
-unfolding _>>=_ _>>_ ask inFront columns within count rank kindOf ruleArgument clauseArgument arguments literal literals patternOf literalOf patterns clauseLiterals inHead restricted isShared linked eachLinked connected hasReverse reverseRules standsFor rulesOf bothWays countsAs counted constantsAsked arityAsked ruleCounts ruleBehind ruleAsked twoWayCounts twoWayBehind twoWayAsked clauseCount clauseBehind clauseAsked withConstants withSymbol withLine withClause constantsLine symbolLine ruleLine twoWayLine clauseLine lineOfKind goodLength columnsAsked readLine readLines emptyDraft read
+unfolding _>>=_ _>>_ ask inFront columns within count rank kindOf ruleArgument clauseArgument arguments literal literals patternOf literalOf patterns clauseLiterals inHead restricted isShared linked eachLinked connected hasReverse reverseRules standsFor rulesOf ways countsAs counted constantsAsked arityAsked ruleCounts ruleBehind ruleAsked twoWayCounts twoWayBehind twoWayAsked clauseCount clauseBehind clauseAsked withConstants withSymbol withLine withClause constantsLine symbolLine ruleLine twoWayLine clauseLine lineOfKind goodLength columnsAsked readLine readLines emptyDraft read
 Questions·all = tt

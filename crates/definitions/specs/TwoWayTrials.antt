@@ -51,7 +51,7 @@ twoWaySheets =
     record { sheet = text (declared ++ replicate 32 "   8   0   1   0   1"); question = 0; line = 0 } ∷
     record { sheet = text (declared ++ replicate 33 "   8   0   1   0   1"); question = 9; line = 36 } ∷
     record { sheet = text (declared ++ replicate 32 "   8   0   1   0   1" ++ ("   3   1   0   1" ∷ [])); question = 9; line = 36 } ∷
-    -- the reverse of q(X) and p is not range restricted: 16 such lines fill 32
+    -- the reverse of q(X) <=> p is not range restricted: 16 such lines fill 32
     record { sheet = text (declared ++ replicate 16 "   8   0   1   1   2   1   1"); question = 0; line = 0 } ∷
     record { sheet = text (declared ++ replicate 16 "   8   0   1   1   2   1   1" ++ ("   3   1   0   1" ∷ [])); question = 9; line = 20 } ∷
     -- 8 before 9, 9 before 10, 10 before 11

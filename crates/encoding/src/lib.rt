@@ -20,9 +20,9 @@ pub const HEADS: usize = 3;
 
 pub const BODY: usize = 2;
 
-pub const KEPT: usize = 2; // heads of a two-way rule, and those that are rewritten
+pub const KEPT: usize = 2; // heads of a two-way rule that are kept
 
-pub const REWRITTEN: usize = 2;
+pub const REWRITTEN: usize = 2; // and that are rewritten
 
 pub const CLAUSES: usize = 64;
 

@@ -1,8 +1,8 @@
 -- What the reader of slots leaves: a refusal by question 10, or a walk whose literals stand as words at the front of the slots.
 use Prim.Native.Nat.{ℕ, _+_, _*_, _<_, _≤_}
-use mathlib.Core.Path.{_≡_, refl, _∙_, ap}
+use mathlib.Core.Path.{_≡_, _∙_, ap}
 use mathlib.Core.Bool.{Bool, true, false}
-use mathlib.Core.List.{List, [], _∷_, _++_, append-assoc}
+use mathlib.Core.List.{List, _++_, append-assoc}
 use native.Mathlib.Omega.{arith}
 use lib.ListN.{length, take, drop, length-append, length-drop}
 use lib.Seq.{sets, take-at, drop-at}
@@ -11,6 +11,7 @@ use Rattle.definitions.specs.Words.{Pattern}
 use Rattle.definitions.specs.Sheet.{Number}
 use Rattle.definitions.specs.Questions.{Asked, no, yes, Parsed, literals, patternOf}
 use Rattle.theory.specs.AskedLaws.{by-asked}
+use Rattle.theory.specs.ListLaws.{none-empty, some-full}
 use Rattle.column.specs.Sets.{sets-front, sets-taken}
 use Rattle.encoding.specs.Signs.{numbers}
 use Rattle.rows.specs.RowLaws.{numbers-length}
@@ -51,14 +52,10 @@ module _ (rule : Bool) (constants : ℕ) (arities : List ℕ) (n : ℕ) (row : L
 
 -- question 11, by the next column
 pub left-over : {n next : ℕ} (left : List Number) → next + length left ≡ n → next < n → isEmpty left ≡ false
-unfolding isEmpty
-left-over [] e h = absurd (omega arith)
-left-over (x ∷ xs) e h = refl
+left-over left e h = some-full left (λ z. omega arith)
 
 pub none-left : {n next : ℕ} (left : List Number) → next + length left ≡ n → n ≤ next → isEmpty left ≡ true
-unfolding isEmpty
-none-left [] e h = refl
-none-left (x ∷ xs) e h = absurd (omega arith)
+none-left left e h = none-empty left (omega arith)
 
 -- ── the front of the slots ──
 

@@ -31,10 +31,13 @@ moreConstants n s = record { constants = n; symbols = s .symbols; rules = s .rul
 unfoldable pub moreSymbols : Sizes → Sizes
 moreSymbols s = record { constants = s .constants; symbols = s .symbols + 1; rules = s .rules; counted = s .counted; clauses = s .clauses; atoms = s .atoms; literals = s .literals }
 
--- the rules that a line of kind 3 or 8 stands for, and those that question 9 counts
+-- so many rules, and so many as question 9 counts them
+abbrev pub resized : ℕ → ℕ → Sizes → Sizes
+resized rules counted s = record { constants = s .constants; symbols = s .symbols; rules = rules; counted = counted; clauses = s .clauses; atoms = s .atoms; literals = s .literals }
+
+-- with the rules that a line of kind 3 or 8 stands for
 unfoldable pub moreRules : RuleLine → Sizes → Sizes
-moreRules l s =
-    record { constants = s .constants; symbols = s .symbols; rules = s .rules + length (rulesOf l); counted = s .counted + countsAs l; clauses = s .clauses; atoms = s .atoms; literals = s .literals }
+moreRules l s = resized (s .rules + length (rulesOf l)) (s .counted + countsAs l) s
 
 unfoldable pub moreClauses : Entered → Sizes → Sizes
 moreClauses e s = record { constants = s .constants; symbols = s .symbols; rules = s .rules; counted = s .counted; clauses = s .clauses + 1; atoms = e .atoms; literals = e .count }

@@ -1,7 +1,7 @@
 -- What the solver promises. Read this first.
 -- A call takes a sheet's bytes, a 32-bit budget and a room that is lent. The contracts of `solve` and `solve_listing` say that they hand
 -- back `call` and `listedPart` and leave `roomAfter` in the room, for all bytes, budgets and rooms, and they require nothing. Here
--- stands what these three are: demand 1, demand 2 and demand 3. The words are those of document 01, each defined in the crate
+-- stands what these three are: demand 1, demand 2 and demand 3. The words are those of documents 01 and 02, each defined in the crate
 -- `definitions`; where arrays are spoken of, the crate that has them says how they stand. What is taken from the theory are proofs.
 -- Assumes nothing.
 use Prim.Native.Nat.{ℕ, _%_, _≤_}
@@ -265,7 +265,7 @@ pub request-7-not-back : (sheet : List ℕ) × (p : Problem) × (v : Assignment)
 request-7-not-back = (freeSheet, freeProblem, bodyAlone, free-read, clauses-satisfied, rules-satisfied, equivalence-broken)
 
 module _ (sheet : List ℕ) (p : Problem) (reads : read sheet ≡ accepted p) where
-  -- In an accepted sheet every two-way rule rewrites a head, as 7/14 supposes.
+  -- In an accepted sheet every two-way rule rewrites a head, as `request-7` supposes.
   pub request-7-rewritten : (t : TwoWay) → twoWay t ∈ p .ruleLines → t .rewritten ≡ [] → ⊥
   request-7-rewritten t = accepted-from-lines sheet p reads .rewrites (twoWay t)
 

@@ -6,10 +6,10 @@ use mathlib.Core.List.{List, _++_, map, map-append, Memᴰ·cast}
 use lib.ListN.{drop}
 use Rattle.definitions.specs.Lists.{_∈_}
 use Rattle.definitions.specs.Words.{Rule, RuleLine, Clause, Problem}
+use Rattle.definitions.specs.Sheet.{lines}
 use Rattle.definitions.specs.Questions.{rulesOf, accepted, read}
 use Rattle.definitions.specs.Sheets.{Row, rowOf, isKind, ofKind, firstSize, Keeps}
 use Rattle.theory.specs.AskedLaws.{isRuleRow, readRuleLine-accepts, readClause-accepts}
-use Rattle.definitions.specs.Sheet.{lines}
 use Rattle.theory.specs.Tests.{or-cases}
 use Rattle.theory.specs.ListLaws.{filter-of, filter-in, joined-of, joined-in}
 use Rattle.theory.specs.Larger.{Includes}

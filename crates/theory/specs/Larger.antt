@@ -7,14 +7,14 @@ use mathlib.Core.List.{List, [], _∷_, _++_, map, cons≢nil, Memᴰ·map, Mem�
 use Rattle.definitions.specs.Lists.{_∈_}
 use Rattle.definitions.specs.Words.{Atom, Literal, Clause, Rule, Problem, goalAtoms}
 use Rattle.definitions.specs.Instances.{ground, variables, Instance, fill, Task, taskOf, FillingOf}
-use Rattle.definitions.specs.Meaning.{Assignment, Choice, Makes, Closure, chosen, derived, bothSigns, falseBody, Fails, SatisfiesClause, SatisfiesFilling, headFalse, bodyTrue, Satisfies}
+use Rattle.definitions.specs.Meaning.{Assignment, Choice, Makes, Closure, chosen, derived, bothSigns, falseBody, Fails, SatisfiesClause, SatisfiesFilling, Satisfies}
 use Rattle.definitions.specs.Search.{State, done, searchTask, search}
 use Rattle.definitions.specs.Verdicts.{setting}
 use Rattle.definitions.specs.declared.Verdict.the-variants.{Unsat, Unknown}
 use Rattle.theory.specs.WordLaws.{makes-not-both, goal-of, goal-from}
 use Rattle.theory.specs.PlaceLaws.{getElem-at}
 use Rattle.theory.specs.InstanceLaws.{substitutions-more, Renumbered, every-filling, only-fillings, filled-rule, filled-heads, filled-body}
-use Rattle.theory.specs.TwoWayLaws.{FromLines, lines-rules}
+use Rattle.theory.specs.TwoWayLaws.{filling-implies, FromLines, lines-rules}
 use Rattle.theory.specs.Choices.{unsat-means}
 use Rattle.theory.specs.Unknown.{unknown-means}
 
@@ -116,12 +116,12 @@ satisfies-respects v p fromLines w = record { clauses = w .clauses; instances = 
   where
     filled : (i : Instance) (f : FillingOf p i) → SatisfiesFilling v (f .rule) (f .filling) → ((h : Literal) → h ∈ i .heads → Makes v h)
         → (i .body ≡ [] → ⊥) × ((l : Literal) → l ∈ i .body → Makes v l)
-    filled i f (headFalse x m n) hs =
-        absurd (makes-not-both v (ground (f .filling) x) (hs (ground (f .filling) x) (subst (λ ls. ground (f .filling) x ∈ ls) (sym (filled-heads f)) (Memᴰ·map (ground (f .filling)) m))) n)
-    filled i f (bodyTrue ne bs) hs = (
-      λ e. ne (map-nil (ground (f .filling)) (f .rule .body) (sym (filled-body f) ∙ e)),
-      λ l m. let (x, n, q) = Memᴰ·of-map (ground (f .filling)) (f .rule .body) (subst (λ ls. l ∈ ls) (filled-body f) m) in subst (Makes v) q (bs x n),
-    )
+    filled i f s hs =
+        let (ne, bs) = filling-implies v (f .filling) (f .rule) s
+        (λ x m. hs (ground (f .filling) x) (subst (λ ls. ground (f .filling) x ∈ ls) (sym (filled-heads f)) (Memᴰ·map (ground (f .filling)) m))) in (
+          λ e. ne (map-nil (ground (f .filling)) (f .rule .body) (sym (filled-body f) ∙ e)),
+          λ l m. let (x, n, q) = Memᴰ·of-map (ground (f .filling)) (f .rule .body) (subst (λ ls. l ∈ ls) (filled-body f) m) in subst (Makes v) q (bs x n),
+        )
 
     respected : (i : Instance) (f : FillingOf p i) → ((h : Literal) → h ∈ i .heads → Makes v h)
         → (i .body ≡ [] → ⊥) × ((l : Literal) → l ∈ i .body → Makes v l)

@@ -1,4 +1,5 @@
--- What an accepted sheet says keeps the limits: each question that is answered yes leaves its bound behind. Assumes nothing.
+-- What an accepted sheet says keeps the limits: each question that is answered yes leaves its bound behind; and its rules are those that
+-- its lines stand for. Assumes nothing.
 use Prim.Native.Nat.{ℕ, zero, suc, _+_, _-_, _≤_}
 use mathlib.Core.Path.{_≡_, refl, sym, ap, subst, _∙_}
 use mathlib.Core.Logic.{_⊎_, inl, inr}
@@ -12,7 +13,7 @@ use Rattle.definitions.specs.Bounds.{mostRules, mostClauses}
 use Rattle.definitions.specs.Lists.{_∈_, isEmpty, distinct, joined}
 use Rattle.definitions.specs.Words.{Literal, Clause, Term, variable, constant, Pattern, Rule, TwoWay, forward, reverse, RuleLine, oneWay, twoWay, Problem, goalAtoms}
 use Rattle.definitions.specs.Sheet.{Line, putByte, lines, Number}
-use Rattle.definitions.specs.Questions.{Asked, no, yes, _>>=_, _>>_, ask, Parsed, within, count, rank, kindOf, ruleArgument, clauseArgument, arguments, literal, literals, patternOf, literalOf, patterns, clauseLiterals, restricted, connected, hasReverse, standsFor, rulesOf, bothWays, countsAs, counted, constantsAsked, arityAsked, ruleCounts, ruleBehind, ruleAsked, twoWayCounts, twoWayBehind, twoWayAsked, clauseCount, clauseBehind, clauseAsked, withConstants, withSymbol, withLine, withClause, constantsLine, symbolLine, ruleLine, twoWayLine, clauseLine, lineOfKind, columnsAsked, Draft, readLine, accepted, readLines, emptyDraft, read}
+use Rattle.definitions.specs.Questions.{Asked, no, yes, _>>=_, _>>_, ask, Parsed, within, count, rank, kindOf, ruleArgument, clauseArgument, arguments, literal, literals, patternOf, literalOf, patterns, clauseLiterals, restricted, connected, hasReverse, standsFor, rulesOf, ways, countsAs, counted, constantsAsked, arityAsked, ruleCounts, ruleBehind, ruleAsked, twoWayCounts, twoWayBehind, twoWayAsked, clauseCount, clauseBehind, clauseAsked, withConstants, withSymbol, withLine, withClause, constantsLine, symbolLine, ruleLine, twoWayLine, clauseLine, lineOfKind, columnsAsked, Draft, readLine, accepted, readLines, emptyDraft, read}
 use Rattle.theory.specs.Tests.{by-test, apart, and-left, and-right}
 use Rattle.theory.specs.TableLaws.{enterAll, enter-known, atomsOf, goal-atoms-more}
 use Rattle.theory.specs.AskedLaws.{by-asked, accepted-read, early-kind}
@@ -291,7 +292,7 @@ two-way-counts ns =
     allows _ (r, b .1, leb-true _ 3 (and-left first second sums), leb-true _ 3 (and-right first second sums))
 
 two-way-asked : (p : Problem) (rules : ℕ) (ns : List Number)
-    → Gives (λ t. TwoWayLimits p t × (rules + bothWays (length (t .body)) ≤ 32)) (twoWayAsked (p .constants) (p .arities) rules ns)
+    → Gives (λ t. TwoWayLimits p t × (rules + ways (length (t .body)) ≤ 32)) (twoWayAsked (p .constants) (p .arities) rules ns)
 unfolding twoWayAsked twoWayBehind
 two-way-asked p rules ns =
     then (two-way-counts ns) λ counts h.
@@ -315,7 +316,7 @@ two-way-asked p rules ns =
         eachRewritten = rl .1;
         eachBody = bl .1;
       },
-      rw (bl .0) (leb-true (rules + bothWays (counts .found .body)) 32 room),
+      rw (bl .0) (leb-true (rules + ways (counts .found .body)) 32 room),
     )
 
 -- the rules that a line stands for keep the limits: the forward rule by what was asked, the reverse rule by the test that it is there

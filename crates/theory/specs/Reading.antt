@@ -12,7 +12,7 @@ use borrow.Author.Tests.{eqb-true, eqb-false, leb-true}
 use Rattle.definitions.specs.Lists.{_∈_, isEmpty, filter, joined}
 use Rattle.definitions.specs.Words.{Rule, TwoWay, RuleLine, oneWay, twoWay, Clause, Problem, goalAtoms}
 use Rattle.definitions.specs.Sheet.{Line, lines, Number}
-use Rattle.definitions.specs.Questions.{Asked, yes, Parsed, count, rank, kindOf, bothWays, counted, constantsAsked, arityAsked, ruleCounts, ruleAsked, twoWayCounts, twoWayAsked, clauseCount, clauseAsked, withConstants, withSymbol, withLine, withClause, constantsLine, symbolLine, ruleLine, twoWayLine, clauseLine, lineOfKind, goodLength, columnsAsked, Draft, readLine, accepted, readLines, emptyDraft, read}
+use Rattle.definitions.specs.Questions.{Asked, yes, Parsed, count, rank, kindOf, ways, counted, constantsAsked, arityAsked, ruleCounts, ruleAsked, twoWayCounts, twoWayAsked, clauseCount, clauseAsked, withConstants, withSymbol, withLine, withClause, constantsLine, symbolLine, ruleLine, twoWayLine, clauseLine, lineOfKind, goodLength, columnsAsked, Draft, readLine, accepted, readLines, emptyDraft, read}
 use Rattle.definitions.specs.Sheets.{Row, filled, rowOf, isKind, ofKind, firstSize, constantsOf}
 use Rattle.theory.specs.Tests.{by-test, apart, and-left, and-right}
 use Rattle.theory.specs.ListLaws.{in-along}
@@ -56,7 +56,7 @@ unfolding twoWayLine twoWayAsked readTwoWay
 twoWayLine-yes s ns p e =
     let (t, h, e₁) = bind-yes (twoWayAsked (s .constants) (s .arities) (counted (s .ruleLines)) ns) _ p e in
     let (counts, h₁, h₂) = bind-yes (twoWayCounts ns) _ t h in
-    let (_, h₃) = ask-yes 9 (leb (counted (s .ruleLines) + bothWays (counts .found .body)) 32) _ t h₂ in
+    let (_, h₃) = ask-yes 9 (leb (counted (s .ruleLines) + ways (counts .found .body)) 32) _ t h₂ in
     (t, yes-bind (twoWayCounts ns) _ counts t h₁ h₃, sym (yes-injective e₁))
 
 clauseLine-yes : (s : Problem) (ns : Row) (p : Problem) → clauseLine s ns ≡ yes p
