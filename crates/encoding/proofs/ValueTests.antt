@@ -11,10 +11,9 @@ use mir.Val.{SFits, toZ, ofZ}
 use mir.Facts.{sfits-lit, sfits-widen, toZ-ofZ}
 use Rattle.bits.specs.Bits.{has, has-shift}
 use Rattle.definitions.specs.LiteralTest.{Value, trueValue, falseValue}
-use Rattle.theory.specs.Tests.{by-test}
 use Rattle.theory.specs.TruthLaws.{one-times, minus-one-times}
 use Rattle.encoding.specs.Values.{Values, setPlace, truePlace, bitIn, setBit, trueBit, putState, stateOf, isTrueValue, isFalseValue, valueAt, unsetAt, wordSign, literalValue, trueWord, falseWord, assigned, unassigned}
-use Rattle.encoding.specs.ValueLaws.{bits-true, bits-false}
+use Rattle.encoding.specs.ValueLaws.{bits-true, bits-false, by-sign}
 
 -- ── a sign ──
 
@@ -40,11 +39,6 @@ unfolding wordSign
 sign-is w zero l e = cc
 sign-is w (suc zero) l e = cc
 sign-is w (suc (suc b)) l e = absurd (omega arith)
-
--- what holds of 1 and of -1 holds of a sign
-by-sign : (w : ℕ) (P : ℤ → Type 0) → P (pos 1) → P (negsuc 0) → P (wordSign w)
-unfolding wordSign
-by-sign w P a b = by-test (eqb (w % 2) 0) (λ e. rw (e, wordSign) a) (λ e. rw (e, wordSign) b)
 
 sign-kept : (w : ℕ) → toZ w32 (ofZ w32 (wordSign w)) ≡ wordSign w
 sign-kept w = by-sign w (λ s. toZ w32 (ofZ w32 s) ≡ s) refl refl

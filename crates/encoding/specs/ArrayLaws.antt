@@ -7,7 +7,7 @@ use mathlib.Core.List.{List, [], _∷_, _++_, map, head-eq-of-cons-eq, tail-eq-o
 use native.Mathlib.Numerals.{add-one, add-two, add-three, add-four}
 use native.Mathlib.Omega.{arith}
 use lib.ListN.{length, getD, set, take, drop, replicate, getElem?, length-drop, take-append-drop}
-use lib.Seq.{drop-cons, length-take-le, take-append-add}
+use lib.Seq.{drop-cons, getD-drop, length-take-le, take-append-add, take-suc}
 use Rattle.definitions.specs.Lists.{_∈_}
 use Rattle.theory.specs.Tests.{apart, none≢some, some-injective}
 use Rattle.encoding.specs.CountLaws.{left-none, by-order}
@@ -38,6 +38,14 @@ part-cons l end i h fits =
     let more : end - i ≡ suc (end - (i + 1)) = omega arith in
     let next : i + 1 ≡ suc i = omega arith in
     rw (more, drop-cons l i 0 (omega arith), next)
+
+-- and the last of them behind the others
+pub part-snoc : (l : List ℕ) (from i : ℕ) → from ≤ i → i < length l → take (i + 1 - from) (drop from l) ≡ take (i - from) (drop from l) ++ (getD l i 0 ∷ [])
+part-snoc l from i h fits =
+    let more : i + 1 - from ≡ suc (i - from) = omega arith in
+    let place : from + (i - from) ≡ i = omega arith in
+    let size = length-drop from l in
+    rw (more, take-suc (drop from l) (i - from) 0 (omega arith), getD-drop from l (i - from) 0, place)
 
 pub part-nil : (l : List ℕ) (end i : ℕ) → end ≤ i → take (end - i) (drop i l) ≡ []
 part-nil l end i h = rw (left-none h)

@@ -14,7 +14,7 @@ use Rattle.definitions.specs.Search.{Trail}
 use Rattle.definitions.specs.LiteralTest.{Value, unsetValue, atomState}
 use Rattle.theory.specs.Tests.{by-test}
 use Rattle.theory.specs.ListLaws.{Different}
-use Rattle.theory.specs.PlaceLaws.{getElem-in, upFrom-append}
+use Rattle.theory.specs.PlaceLaws.{getElem-in, upFrom-append, map-places}
 use Rattle.theory.specs.TableLaws.{position-at}
 use Rattle.encoding.specs.Values.{Values, setPlace, truePlace, bitIn, setBit, trueBit, valueAt}
 use Rattle.encoding.specs.StateWords.{tellsSet, tellsTrue, set-told, true-told, same-values}
@@ -36,28 +36,18 @@ module _ (values : Values) where
   unset-from at zero unset = refl
   unset-from at (suc n) unset = ap₂ (λ (v : Value) (vs : List Value). v ∷ vs) (unset at (omega arith)) (unset-from (suc at) n (λ i l. unset i (omega arith)))
 
-  module _ (t : Trail) where
-    states-from : (at : ℕ) (atoms : List Atom) → ((i : ℕ) (a : Atom) → getElem? atoms i ≡ some a → valueAt values (at + i) ≡ atomState t a)
-        → map (valueAt values) (upFrom at (length atoms)) ≡ map (atomState t) atoms
-    unfolding upFrom
-    states-from at [] each = refl
-    states-from at (a ∷ atoms) each =
-        let here : at + 0 ≡ at = omega arith in
-        ap₂ (λ (v : Value) (vs : List Value). v ∷ vs) (rw here at (each 0 a refl))
-        (states-from (suc at) atoms (λ i b e. let next : suc at + i ≡ at + suc i = omega arith in rw next (each (suc i) b e)))
-
-    pub table-stands : (table : List Atom) → Different table → length table ≤ 256 → Valued table t values → ((i : ℕ) → length table ≤ i → valueAt values i ≡ unsetValue)
-        → statesIn values ≡ stateTable table t
-    unfolding statesIn stateTable
-    table-stands table different few valued outside =
-        let n = length table in
-        let whole : 256 ≡ n + (256 - n) = omega arith in
-        ap (λ (k : ℕ). map (valueAt values) (upFrom 0 k)) whole
-        ∙ ap (map (valueAt values)) (upFrom-append 0 n (256 - n))
-        ∙ map-append (valueAt values) (upFrom 0 n) (upFrom (0 + n) (256 - n))
-        ∙ ap₂ (λ (xs ys : List Value). xs ++ ys)
-        (states-from 0 table (λ i a e. let place = position-at table different i a e in let at : 0 + i ≡ i = omega arith in rw at (rw place at (valued a (getElem-in table i a e .1)))))
-        (unset-from (0 + n) (256 - n) (λ i l. outside i (omega arith)))
+  pub table-stands : (t : Trail) (table : List Atom) → Different table → length table ≤ 256 → Valued table t values → ((i : ℕ) → length table ≤ i → valueAt values i ≡ unsetValue)
+      → statesIn values ≡ stateTable table t
+  unfolding statesIn stateTable
+  table-stands t table different few valued outside =
+      let n = length table in
+      let whole : 256 ≡ n + (256 - n) = omega arith in
+      ap (λ (k : ℕ). map (valueAt values) (upFrom 0 k)) whole
+      ∙ ap (map (valueAt values)) (upFrom-append 0 n (256 - n))
+      ∙ map-append (valueAt values) (upFrom 0 n) (upFrom (0 + n) (256 - n))
+      ∙ ap₂ (λ (xs ys : List Value). xs ++ ys)
+      (map-places (valueAt values) (atomState t) 0 table (λ i a e. let place = position-at table different i a e in let at : 0 + i ≡ i = omega arith in rw at (rw place at (valued a (getElem-in table i a e .1)))))
+      (unset-from (0 + n) (256 - n) (λ i l. outside i (omega arith)))
 
 -- ── the table gives the words ──
 

@@ -4,7 +4,7 @@ use mathlib.Core.Path.{_≡_, refl, sym, ap, _∙_}
 use mathlib.Core.Bool.{true, false}
 use native.Mathlib.Omega.{arith}
 use lib.Dec.{eqb}
-use lib.IntN.{pos, negsuc}
+use lib.IntN.{ℤ, pos, negsuc}
 use lib.ListN.{length, length-replicate}
 use borrow.Author.Tests.{eq-eqb, ne-eqb, eqb-true, eqb-false}
 use mir.Syntax.{w32}
@@ -14,7 +14,7 @@ use Rattle.definitions.specs.LiteralTest.{Value, unsetValue, trueValue, falseVa
 use Rattle.theory.specs.Tests.{by-test}
 use Rattle.encoding.specs.ArrayLaws.{getD-repeated}
 use Rattle.bits.specs.Bits.{has-zero}
-use Rattle.encoding.specs.Values.{Values, sameValue, isTrueValue, isFalseValue, setPlace, truePlace, setBit, trueBit, stateOf, valueAt, wordSign, noValues, assigned, unassigned}
+use Rattle.encoding.specs.Values.{Values, sameValue, isTrueValue, isFalseValue, setPlace, truePlace, setBit, trueBit, stateOf, valueAt, wordSign, otherSign, noValues, assigned, unassigned}
 use Rattle.encoding.specs.StateWords.{state-here, state-elsewhere, length-put, taken-either}
 
 -- ── the tests of a value, by its bits: they are what the machine compares ──
@@ -62,6 +62,19 @@ even-sign w e = cc
 pub odd-sign : (w : ℕ) → w % 2 ≡ 1 → wordSign w ≡ negsuc 0
 unfolding wordSign
 odd-sign w e = cc
+
+-- what holds of 1 and of -1 holds of a sign
+pub by-sign : (w : ℕ) (P : ℤ → Type 0) → P (pos 1) → P (negsuc 0) → P (wordSign w)
+unfolding wordSign
+by-sign w P a b = by-test (eqb (w % 2) 0) (λ e. rw (e, wordSign) a) (λ e. rw (e, wordSign) b)
+
+pub other-even : (w : ℕ) → w % 2 ≡ 0 → w + 1 ≡ otherSign w
+unfolding otherSign
+other-even w e = rw (eq-eqb (w % 2) 0 e, otherSign)
+
+pub other-odd : (w : ℕ) → (w % 2 ≡ 0 → ⊥) → w - 1 ≡ otherSign w
+unfolding otherSign
+other-odd w n = rw (ne-eqb (w % 2) 0 n, otherSign)
 
 -- ── setting and unsetting ──
 

@@ -73,6 +73,10 @@ unsetAt values i = not (setBit values i)
 unfoldable pub wordSign : ℕ → ℤ
 wordSign w = elim (eqb (w % 2) 0) [ true ↦ pos 1 | false ↦ negsuc 0 ]
 
+-- the word with the other sign
+unfoldable pub otherSign : ℕ → ℕ
+otherSign w = elim (eqb (w % 2) 0) [ true ↦ w + 1 | false ↦ w - 1 ]
+
 -- the value of a literal: the product of its sign and its atom's state
 unfoldable pub literalValue : Values → ℕ → Value
 literalValue values w = wordSign w *ℤ valueAt values (w / 2)

@@ -45,7 +45,7 @@ truth-is-false t consistent l = by-truth t consistent l (λ p q. cc (truth-true 
 
 -- ── words ──
 
-literal-sign : (table : List Atom) (l : Literal) → wordSign (literalWord table l) ≡ literalSign l
+pub literal-sign : (table : List Atom) (l : Literal) → wordSign (literalWord table l) ≡ literalSign l
 unfolding literalWord wordOf literalSign
 literal-sign table l =
     by-test (l .positive)

@@ -3,7 +3,7 @@
 ghost use mathlib.Core.Path.{_≡_};
 ghost use Prim.Native.Nat.{_/_, _<_, _^_};
 ghost use lib.Dec.{eqb};
-ghost use Rattle.encoding.specs.Values.{goalsSet, bitIn, stateOf, valueAt, unsetAt, wordSign, literalValue, trueWord, falseWord, storeBit, putState, assigned, unassigned};
+ghost use Rattle.encoding.specs.Values.{goalsSet, bitIn, stateOf, valueAt, unsetAt, wordSign, otherSign, literalValue, trueWord, falseWord, storeBit, putState, assigned, unassigned};
 use crate::wide;
 use bits::long;
 
@@ -30,6 +30,16 @@ fn sign(w: u16) -> Value
     ensures { λ r. ⌜ r ≡ wordSign w ⌝ }
 {
     1 - 2 * ((w % 2) as Value)
+}
+
+// The word of a literal's negation.
+pub fn other_sign(w: u16) -> u16
+    ensures { λ r. ⌜ r ≡ otherSign w ⌝ }
+{
+    if w % 2 == 0 {
+        return w + 1;
+    }
+    w - 1
 }
 
 // A state by both bits: twice the one for true less the one for set.

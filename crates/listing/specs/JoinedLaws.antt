@@ -7,17 +7,9 @@ use native.Mathlib.Omega.{arith}
 use lib.ListN.{length, getElem?}
 use Rattle.definitions.specs.Lists.{joined, upFrom}
 use Rattle.theory.specs.ListLaws.{joined-append}
+use Rattle.theory.specs.PlaceLaws.{map-places}
 use Rattle.encoding.specs.CountLaws.{upFrom-more, upFrom-none}
 use Rattle.listing.specs.Puts.{Parts}
-
--- what is made from each place of a list is what is made from the element there
-pub map-places : {A B : Type 0} (f : ℕ → B) (g : A → B) (a : ℕ) (xs : List A) → ((i : ℕ) (x : A) → getElem? xs i ≡ some x → f (a + i) ≡ g x)
-    → map f (upFrom a (length xs)) ≡ map g xs
-unfolding upFrom
-map-places f g a [] h = refl
-map-places f g a (x ∷ xs) h =
-    let here : a + 0 ≡ a = omega arith in
-    cc (h 0 x refl, map-places f g (suc a) xs (λ i y e. let next : suc a + i ≡ a + suc i = omega arith in ap f next ∙ h (suc i) y e))
 
 pub joined-map : {A B C : Type 0} (f : B → List C) (g : A → B) (xs : List A) → joined f (map g xs) ≡ joined (λ x. f (g x)) xs
 unfolding joined

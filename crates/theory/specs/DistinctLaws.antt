@@ -10,7 +10,7 @@ use lib.Seq.{take-at, take-all}
 use borrow.Author.Tests.{not-true}
 use Rattle.definitions.specs.Lists.{_∈_, any, all, filter, distinct, added}
 use Rattle.theory.specs.Tests.{by-test, true-and-false}
-use Rattle.theory.specs.ListLaws.{any-some, any-of, any-none, all-each, all-of, filter-of, filter-in, filter-length, filter-append, filter-all, Different}
+use Rattle.theory.specs.ListLaws.{any-some, any-of, any-none, none-any, all-each, all-of, filter-of, filter-in, filter-length, filter-append, filter-all, filter-both, Different}
 use Rattle.theory.specs.PlaceLaws.{filter-different, filter-alike, filter-map}
 
 -- ── its elements ──
@@ -47,6 +47,28 @@ module _ {A : Type 0} (same : A → A → Bool) where
         (λ e. by-test (all p (distinct same xs))
         (λ d. true-and-false (all-of p xs (λ x m. all-each p (distinct same xs) d x (distinct-of xs x m))) e)
         (λ d. d ∙ sym e))
+
+    -- and some element where it passes one of these
+    pub any-distinct : (p : A → Bool) (xs : List A) → any p (distinct same xs) ≡ any p xs
+    any-distinct p xs =
+        by-test (any p xs)
+        (λ e. let (x, m, q) = any-some p xs e in any-of p (distinct same xs) x (distinct-of xs x m) q ∙ sym e)
+        (λ e. none-any p (distinct same xs) (λ x m. any-none p xs e x (distinct-in xs x m)) ∙ sym e)
+
+    -- the different ones of those that pass are those that pass of the different ones
+    pub filter-distinct : (p : A → Bool) (xs : List A) → distinct same (filter p xs) ≡ filter p (distinct same xs)
+    unfolding distinct filter
+    filter-distinct p [] = refl
+    filter-distinct p (x ∷ xs) =
+        let others : A → Bool = λ y. not (same x y) in
+        let rest = filter-distinct p xs in
+        by-test (p x)
+        (λ e. cc (rest, filter-both others p (distinct same xs)))
+        (λ e. let kept : filter others (filter p (distinct same xs)) ≡ filter p (distinct same xs)
+        = filter-all others (filter p (distinct same xs)) (λ y m. by-test (same x y)
+        (λ q. true-and-false (filter-in p (distinct same xs) y m .1) (ap p (sym (eq x y q)) ∙ e))
+        (λ q. cc)) in
+        cc (rest, filter-both others p (distinct same xs), kept))
 
 -- they differ; where all differ, they are the list itself
 pub distinct-different : {A : Type 0} (same : A → A → Bool) → ((x : A) → same x x ≡ true) → (xs : List A) → Different (distinct same xs)

@@ -18,13 +18,14 @@ use Rattle.definitions.specs.Text.{bytes}
 use Rattle.definitions.specs.Dimacs.{tableNumber, cnfOf, headerLine, literalText, clauseText, cnfText, readCnf, CnfLimits}
 use Rattle.definitions.specs.declared.Verdict.{Verdict}
 use Rattle.theory.specs.Tests.{by-test}
-use Rattle.theory.specs.ListLaws.{joined-append, joined-length, Each, each-append}
+use Rattle.theory.specs.ListLaws.{joined-append, joined-length, Each}
 use Rattle.theory.specs.WordLaws.{goal-of}
 use Rattle.theory.specs.TableLaws.{position-inside, position-append}
 use Rattle.theory.specs.Invariants.{Sound, search-sound}
-use Rattle.theory.specs.Limits.{Limits, accepted-limits}
+use Rattle.theory.specs.Limits.{Limits, limits-searchable, accepted-limits}
 use Rattle.theory.specs.ListingLaws.{decimals-length, clause-length}
-use Rattle.theory.specs.Sizes.{instance-listable}
+use Rattle.theory.specs.Sizes.{instance-heads}
+use Rattle.theory.specs.ClauseNumbers.{clauses-short}
 use Rattle.theory.specs.CnfReads.{cnf-round-trip}
 
 -- ── the length of a text ──
@@ -68,7 +69,6 @@ header-length atoms clauses h g =
 -- at most so many literals, whose atoms stand in the table, and before a place
 record Numbered (table : List Atom) (most highest : ℕ) (c : Clause) : Type 0 where
   few : length c ≤ most
-  inside : (l : Literal) → l ∈ c → position table (l .atom) < length table
   low : (l : Literal) → l ∈ c → position table (l .atom) < highest
 
 -- numbers from 1 to the highest have as many digits as that
@@ -98,7 +98,6 @@ module _ (sheet : List ℕ) (p : Problem) (reads : read sheet ≡ accepted p) (b
   goal-numbered c m =
       record {
         few = limits .eachClause c m .literals;
-        inside = λ l n. position-inside (s .table) (l .atom) (sound .fits .goals (l .atom) (goal-of (p .clauses) c l m n));
         low = λ l n. let a = goal-of (p .clauses) c l m n in
             let at = position-append (goalAtoms (p .clauses)) (sound .tabled .created) (l .atom) a in
             let same = ap (λ t. position t (l .atom)) (sound .tabled .split) in
@@ -109,13 +108,10 @@ module _ (sheet : List ℕ) (p : Problem) (reads : read sheet ≡ accepted p) (b
   logged-numbered : Each (Numbered (s .table) 4 256) (map clauseOf (s .log))
   logged-numbered c m =
       let (g, n, q) = Memᴰ·of-map clauseOf (s .log) m in
-      let heads = instance-listable p limits (g .instance) (sound .inv .logOk g n .its) .heads in
-      let inside : (l : Literal) → l ∈ clauseOf g → position (s .table) (l .atom) < length (s .table)
-      = λ l k. position-inside (s .table) (l .atom) (sound .fits .written g n l k) in
+      let heads = instance-heads p limits (g .instance) (sound .inv .logOk g n .its) in
       subst (Numbered (s .table) 4 256) q (record {
         few = omega (arith, clause-length g, heads);
-        inside = inside;
-        low = λ l k. omega (arith, inside l k, sound .fits .tableSize);
+        low = λ l k. omega (arith, position-inside (s .table) (l .atom) (sound .fits .written g n l k), sound .fits .tableSize);
       })
 
   -- ── its limits ──
@@ -131,7 +127,7 @@ module _ (sheet : List ℕ) (p : Problem) (reads : read sheet ≡ accepted p) (b
         range = λ ns m n j. let (c, k, q) = Memᴰ·of-map (map (tableNumber (s .table))) all m in
             let (l, i, r) = Memᴰ·of-map (tableNumber (s .table)) c (subst (λ x. n ∈ x) (sym q) j) in
             let size = ap (λ (x : Number). x .size) r in
-            (omega (arith, size), omega (arith, size, each c k .1 l i));
+            (omega (arith, size), omega (arith, size, position-inside (s .table) (l .atom) (each c k .1 l i)));
       }
     where
       all : List Clause
@@ -140,11 +136,8 @@ module _ (sheet : List ℕ) (p : Problem) (reads : read sheet ≡ accepted p) (b
       count : length all ≡ length (p .clauses) + length (s .log)
       count = omega (arith, length-append (p .clauses) (map clauseOf (s .log)), length-map (s .log) clauseOf)
 
-      each : Each (λ c. (length c ≤ 8) × ((l : Literal) → l ∈ c → position (s .table) (l .atom) < length (s .table))) all
-      each =
-          each-append _ (p .clauses)
-          (λ c m. let n = goal-numbered c m in (n .few, n .inside))
-          (λ c m. let n = logged-numbered c m in (omega (arith, n .few), n .inside))
+      each : Each (λ c. (length c ≤ 8) × ((l : Literal) → l ∈ c → l .atom ∈ s .table)) all
+      each = clauses-short p (limits-searchable p limits) s sound
 
   -- ── its length ──
 

@@ -154,6 +154,14 @@ module _ {A : Type 0} (p : A → Bool) where
   filter-none [] h = refl
   filter-none (x ∷ xs) h = cc (h x (List·Memᴰ·head refl), filter-none xs (λ y m. h y (List·Memᴰ·tail m)))
 
+-- two tests, in either order
+pub filter-both : {A : Type 0} (p q : A → Bool) (xs : List A) → filter p (filter q xs) ≡ filter q (filter p xs)
+unfolding filter
+filter-both p q [] = refl
+filter-both p q (x ∷ xs) =
+    let rest = filter-both p q xs in
+    by-test (p x) (λ a. by-test (q x) (λ b. cc rest) (λ b. cc rest)) (λ a. by-test (q x) (λ b. cc rest) (λ b. cc rest))
+
 module _ {A B : Type 0} (f : A → Option B) where
   pub firstSome-in : (xs : List A) (b : B) → firstSome f xs ≡ some b → (x : A) × (x ∈ xs) × (f x ≡ some b)
   unfolding firstSome
@@ -168,6 +176,14 @@ module _ {A B : Type 0} (f : A → Option B) where
   firstSome-none [] h x m = absurd (List·Memᴰ·not-nil m)
   firstSome-none (y ∷ ys) h x (List·Memᴰ·head q) = by-option (f y) (λ e. cc) (λ b e. apart (cc))
   firstSome-none (y ∷ ys) h x (List·Memᴰ·tail m) = by-option (f y) (λ e. firstSome-none ys (cc) x m) (λ b e. apart (cc))
+
+  -- elements that give nothing may be left out
+  pub firstSome-filter : (p : A → Bool) (xs : List A) → ((x : A) → x ∈ xs → p x ≡ false → f x ≡ none) → firstSome f (filter p xs) ≡ firstSome f xs
+  unfolding firstSome filter
+  firstSome-filter p [] h = refl
+  firstSome-filter p (x ∷ xs) h =
+      let rest = firstSome-filter p xs (λ y m. h y (List·Memᴰ·tail m)) in
+      by-test (p x) (λ e. by-option (f x) (λ q. cc rest) (λ b q. cc)) (λ e. cc (rest, h x (List·Memᴰ·head refl) e))
 
 module _ {A B : Type 0} (f : A → List B) where
   pub joined-of : (xs : List A) (x : A) (y : B) → x ∈ xs → y ∈ f x → y ∈ joined f xs

@@ -72,6 +72,15 @@ map-upFrom g h a b (suc k) e =
         let bj : suc b + j ≡ b + suc j = omega arith in
         cc (e (suc j) (omega arith))
 
+-- what is made from each place of a list is what is made from the element there
+pub map-places : {A B : Type 0} (f : ℕ → B) (g : A → B) (a : ℕ) (xs : List A) → ((i : ℕ) (x : A) → getElem? xs i ≡ some x → f (a + i) ≡ g x)
+    → map f (upFrom a (length xs)) ≡ map g xs
+unfolding upFrom
+map-places f g a [] h = refl
+map-places f g a (x ∷ xs) h =
+    let here : a + 0 ≡ a = omega arith in
+    cc (h 0 x refl, map-places f g (suc a) xs (λ i y e. let next : suc a + i ≡ a + suc i = omega arith in ap f next ∙ h (suc i) y e))
+
 -- a rising list of numbers holds just those in its range
 pub upFrom-in : (first n c : ℕ) → c ∈ upFrom first n → (first ≤ c) × (c < first + n)
 unfolding upFrom

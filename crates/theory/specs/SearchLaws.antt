@@ -138,7 +138,7 @@ clause-cases g l m =
 -- ── what a clause asks for ──
 
 module _ (t : Trail) where
-  notFalse-of : (c : Clause) (l : Literal) → l ∈ c → isFalse t l ≡ false → l ∈ notFalse t c
+  pub notFalse-of : (c : Clause) (l : Literal) → l ∈ c → isFalse t l ≡ false → l ∈ notFalse t c
   unfolding notFalse
   notFalse-of c l m h = distinct-of sameLiteral sameLiteral-eq _ l (filter-of _ c l m (cc))
 

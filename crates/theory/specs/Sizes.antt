@@ -20,7 +20,7 @@ use Rattle.theory.specs.Counts.{decisions-within-budget, conflicts-at-mo
 use Rattle.theory.specs.Sources.{search-sourced}
 use Rattle.theory.specs.Unknown.{consistent}
 use Rattle.theory.specs.Choices.{search-tells}
-use Rattle.theory.specs.Limits.{TermLimits, PatternLimits, LiteralLimits, Limits, arity-limit}
+use Rattle.theory.specs.Limits.{TermLimits, PatternLimits, LiteralLimits, Within, Limits, arity-limit}
 use Rattle.theory.specs.ListingLaws.{AtomListable, Listable}
 
 -- a filled variable has a constant of the sheet, one that stands nowhere has 0
@@ -31,6 +31,12 @@ value-limit (b ∷ bs) n v h =
     by-test (eqb (b .variable) v)
     (λ e. rw (e, valueOf) (h b (List·Memᴰ·head refl)))
     (λ e. rw (e, valueOf) (value-limit bs n v (λ x m. h x (List·Memᴰ·tail m))))
+
+-- an instance has its rule's heads
+pub instance-heads : {ruleLimit clauseLimit : ℕ} (p : Problem) → Within ruleLimit clauseLimit p → (i : Instance) → i ∈ taskOf p .instances → length (i .heads) ≤ 3
+instance-heads p limits i m =
+    let f = only-fillings p i m in
+    omega (arith, ap length (filled-heads f), length-map (f .rule .heads) (ground (f .filling)), limits .eachRule (f .rule) (filled-rule f .1) .heads)
 
 module _ (p : Problem) (limits : Limits p) where
   -- a filled literal of a rule
@@ -72,7 +78,7 @@ module _ (p : Problem) (limits : Limits p) where
       let sound : (b : Binding) → b ∈ f .filling → b .constant ≤ p .constants = λ b j. substitution-sound (p .constants) (variables (f .rule)) (f .filling) (f .inside) b j .1 in
       record {
         rule = omega (arith, ap (λ (x : Instance). x .rule) (f .made), filled-rule f .0, limits .rules);
-        heads = omega (arith, ap length (filled-heads f), length-map (f .rule .heads) (ground (f .filling)), r .heads);
+        heads = instance-heads p limits i m;
         head = λ l n. let (x, j, q) = Memᴰ·of-map (ground (f .filling)) (f .rule .heads) (subst (λ ls. l ∈ ls) (filled-heads f) n) in
             subst (λ (y : Literal). AtomListable (y .atom)) q (pattern-listable (f .filling) sound x (r .eachHead x j));
         body = λ l n. let (x, j, q) = Memᴰ·of-map (ground (f .filling)) (f .rule .body) (subst (λ ls. l ∈ ls) (filled-body f) n) in
