@@ -1,5 +1,5 @@
--- The bits of a word: which of them are set, the set ones in rising order, and what `&`, `|`, the difference, the complement, a power of two
--- and a bit that is replaced do to them. Assumes nothing.
+-- The bits of a word: which of them are set, the set ones in rising order, the word that has given bits, and what `&`, `|`, the difference,
+-- the complement, a shift, a power of two and a bit that is put, taken off or replaced do to them. Assumes nothing.
 use Prim.Native.Nat.{ℕ, zero, suc, _+_, _-_, _*_, _/_, _%_, _^_, _≤_, _<_, min, max}
 use mathlib.Core.Path.{_≡_, refl, sym, ap, _∙_}
 use mathlib.Core.Logic.{⊎-elim}
@@ -26,6 +26,11 @@ bitsFrom i (suc k) m = elim (eqb (m % 2) 1) [ true ↦ i ∷ bitsFrom (suc i) k 
 unfoldable pub bitsOf : ℕ → List ℕ
 bitsOf m = bitsFrom 0 32 m
 
+-- the word with the given bits, so many of them
+unfoldable pub packed : ℕ → (ℕ → Bool) → ℕ
+packed zero bit = 0
+packed (suc k) bit = elim (bit 0) [ true ↦ 1 | false ↦ 0 ] + 2 * packed k (λ (c : ℕ). bit (suc c))
+
 pub by-bit : (w : ℕ) {C : Type 0} → (w % 2 ≡ 0 → C) → (w % 2 ≡ 1 → C) → C
 by-bit w z o = ⊎-elim (λ e. z e) (λ p. o (omega arith)) (eq-zero-or-pos (w % 2))
 
@@ -44,6 +49,10 @@ module _ (i k m : ℕ) where
   bits-even : m % 2 ≡ 0 → bitsFrom i (suc k) m ≡ bitsFrom (suc i) k (m / 2)
   unfolding bitsFrom
   bits-even e = rw (e, bitsFrom)
+
+zeros-none : (m : ℕ) → trailingZeros 0 m ≡ 0
+unfolding trailingZeros
+zeros-none m = refl
 
 module _ (k m : ℕ) where
   pub zeros-odd : m % 2 ≡ 1 → trailingZeros (suc k) m ≡ 0
@@ -74,6 +83,24 @@ lowest i (suc k) m p l =
     let half : (m - 1) / 2 ≡ m / 2 = omega arith in
     let next : bitsFrom i (suc k) (m - 1) ≡ bitsFrom (suc i) k (m / 2) = bits-even i k (m - 1) even ∙ rw half in
     rw (zeros-odd k m e) (omega arith, omega arith, bits-odd i k m e ∙ rw (add-zero i, next)))
+
+-- it is set, and none below it is
+pub has-lowest : (k m : ℕ) → 0 < m → m < 2 ^ k → has (trailingZeros k m) m ≡ true
+unfolding has
+has-lowest zero m p l = absurd (omega arith)
+has-lowest (suc k) m p l =
+    by-bit m
+    (λ e. let x = pow-suc 2 k in rw (zeros-even k m e) (has-lowest k (m / 2) (omega arith) (omega arith)))
+    (λ e. rw (zeros-odd k m e, e))
+
+pub none-lower : (k c m : ℕ) → c < trailingZeros k m → has c m ≡ false
+unfolding has
+none-lower zero c m l = let z = zeros-none m in absurd (omega arith)
+none-lower (suc k) zero m l = by-bit m (λ e. rw e) (λ e. let z = zeros-odd k m e in absurd (omega arith))
+none-lower (suc k) (suc c) m l =
+    by-bit m
+    (λ e. let z = zeros-even k m e in none-lower k c (m / 2) (omega arith))
+    (λ e. let z = zeros-odd k m e in absurd (omega arith))
 
 -- ── `&`, `|` and the difference, bit by bit ──
 
@@ -169,6 +196,67 @@ has-complement (suc c) (suc n) m l h =
     let half : (2 ^ suc n - 1 - m) / 2 ≡ 2 ^ n - 1 - m / 2 = omega arith in
     rw half (has-complement c n (m / 2) (omega arith) (omega arith))
 
+-- ── a bit is put or taken off, by a sum or a difference ──
+
+odd-of : (m : ℕ) → eqb (m % 2) 1 ≡ true → m % 2 ≡ 1
+odd-of m e = eqb-true (m % 2) 1 e
+
+even-of : (m : ℕ) → eqb (m % 2) 1 ≡ false → m % 2 ≡ 0
+even-of m e = by-bit m (λ z. z) (λ o. absurd (eqb-false (m % 2) 1 e o))
+
+-- a set bit d is taken off
+pub has-taken : (d c m : ℕ) → has d m ≡ true → (2 ^ d ≤ m) × (has c (m - 2 ^ d) ≡ (has c m && not (eqb c d)))
+unfolding has
+has-taken zero zero m h =
+    let o = odd-of m h in
+    let z : (m - 1) % 2 ≡ 0 = omega arith in
+    (omega arith, rw (z, o))
+has-taken zero (suc c) m h =
+    let o = odd-of m h in
+    let e : (m - 1) / 2 ≡ m / 2 = omega arith in
+    (omega arith, rw (e, eqb·suc-zero c) (sym (and-true (has c (m / 2)))))
+has-taken (suc d) zero m h =
+    let p = pow-suc 2 d in
+    let l = has-taken d zero (m / 2) h .0 in
+    let e : (m - 2 ^ suc d) % 2 ≡ m % 2 = omega arith in
+    (omega arith, rw (e, eqb·zero-suc d) (sym (and-true (eqb (m % 2) 1))))
+has-taken (suc d) (suc c) m h =
+    let p = pow-suc 2 d in
+    let (l, i) = has-taken d c (m / 2) h in
+    let e : (m - 2 ^ suc d) / 2 ≡ m / 2 - 2 ^ d = omega arith in
+    (omega arith, rw (e, eqb·suc-suc c d) i)
+
+-- an unset bit d is put
+pub has-put : (d c m : ℕ) → has d m ≡ false → has c (m + 2 ^ d) ≡ (has c m || eqb c d)
+unfolding has
+has-put zero zero m h =
+    let z = even-of m h in
+    let o : (m + 1) % 2 ≡ 1 = omega arith in
+    rw (z, o)
+has-put zero (suc c) m h =
+    let z = even-of m h in
+    let e : (m + 1) / 2 ≡ m / 2 = omega arith in
+    rw (e, eqb·suc-zero c) (sym (or-false (has c (m / 2))))
+has-put (suc d) zero m h =
+    let p = pow-suc 2 d in
+    let e : (m + 2 ^ suc d) % 2 ≡ m % 2 = omega arith in
+    rw (e, eqb·zero-suc d) (sym (or-false (eqb (m % 2) 1)))
+has-put (suc d) (suc c) m h =
+    let p = pow-suc 2 d in
+    let e : (m + 2 ^ suc d) / 2 ≡ m / 2 + 2 ^ d = omega arith in
+    rw (e, eqb·suc-suc c d) (has-put d c (m / 2) h)
+
+-- a word below 2 ^ n stays below it, with a bit below n
+pub put-below : (d n m : ℕ) → has d m ≡ false → d < n → m < 2 ^ n → m + 2 ^ d < 2 ^ n
+unfolding has
+put-below d zero m h l b = absurd (omega arith)
+put-below zero (suc n) m h l b = let p = pow-suc 2 n in let z = even-of m h in omega arith
+put-below (suc d) (suc n) m h l b =
+    let p = pow-suc 2 n in
+    let q = pow-suc 2 d in
+    let i = put-below d n (m / 2) h (omega arith) (omega arith) in
+    omega arith
+
 -- ── a bit is replaced ──
 
 -- bit c of the word is b, whatever it was
@@ -215,15 +303,62 @@ same-bits a b h = same-below (a + b) a b (below-power (a + b) a (omega arith)) (
     below-power zero x l = omega arith
     below-power (suc n) x l = let e = pow-suc 2 n in let p = pow-pos n in let i = below-power n (x - 1) (omega arith) in omega arith
 
+-- ── the word with given bits ──
+
+packed-half : (k : ℕ) (bit : ℕ → Bool) → packed (suc k) bit / 2 ≡ packed k (λ (c : ℕ). bit (suc c))
+unfolding packed
+packed-half k bit = by-first (bit 0)
+  where
+    by-first : (b : Bool) → (elim b [ true ↦ 1 | false ↦ 0 ] + 2 * packed k (λ (c : ℕ). bit (suc c))) / 2 ≡ packed k (λ (c : ℕ). bit (suc c))
+    by-first true = omega arith
+    by-first false = omega arith
+
+packed-first : (k : ℕ) (bit : ℕ → Bool) → eqb (packed (suc k) bit % 2) 1 ≡ bit 0
+unfolding packed
+packed-first k bit = by-first (bit 0)
+  where
+    by-first : (b : Bool) → eqb ((elim b [ true ↦ 1 | false ↦ 0 ] + 2 * packed k (λ (c : ℕ). bit (suc c))) % 2) 1 ≡ b
+    by-first true = let odd : (1 + 2 * packed k (λ (c : ℕ). bit (suc c))) % 2 ≡ 1 = omega arith in rw odd
+    by-first false = let even : (0 + 2 * packed k (λ (c : ℕ). bit (suc c))) % 2 ≡ 0 = omega arith in rw even
+
+pub has-packed : (k : ℕ) (bit : ℕ → Bool) (c : ℕ) → c < k → has c (packed k bit) ≡ bit c
+unfolding has
+has-packed zero bit c l = absurd (omega arith)
+has-packed (suc k) bit zero l = packed-first k bit
+has-packed (suc k) bit (suc c) l = rw (packed-half k bit) (has-packed k (λ (d : ℕ). bit (suc d)) c (omega arith))
+
+pub packed-below : (k : ℕ) (bit : ℕ → Bool) → packed k bit < 2 ^ k
+unfolding packed
+packed-below zero bit = omega arith
+packed-below (suc k) bit =
+    let e = pow-suc 2 k in
+    let h = packed-half k bit in
+    let i = packed-below k (λ (c : ℕ). bit (suc c)) in
+    omega arith
+
+-- no other word below 2 ^ k has them
+pub packed-only : (k m : ℕ) (bit : ℕ → Bool) → m < 2 ^ k → ((c : ℕ) → c < k → has c m ≡ bit c) → m ≡ packed k bit
+packed-only k m bit l h =
+    same-bits m (packed k bit)
+    (λ c. ⊎-elim
+    (λ e. let b : k ≤ c = omega arith in has-high c k m l b ∙ sym (has-high c k (packed k bit) (packed-below k bit) b))
+    (λ e. let b : c < k = omega arith in h c b ∙ sym (has-packed k bit c b))
+    (eq-zero-or-pos (k - c)))
+
 -- ── in the code's terms ──
+
+-- the bits of a word that is shifted
+pub has-over : (n c m : ℕ) → has c (m / 2 ^ n) ≡ has (n + c) m
+unfolding has
+has-over zero c m = let e : 0 + c ≡ c = omega arith in rw (div-one m, e)
+has-over (suc n) c m =
+    let e : suc n + c ≡ suc (n + c) = omega arith in
+    rw e (ap (has c) (ap (λ (x : ℕ). m / x) (pow-suc 2 n ∙ mul-comm (2 ^ n) 2) ∙ sym (div-div-eq-div-mul m 2 (2 ^ n))) ∙ has-over n c (m / 2))
 
 -- the bit by a shift
 pub has-shift : (c m : ℕ) → has c m ≡ eqb (m / 2 ^ c % 2) 1
 unfolding has
-has-shift zero m = rw (div-one m)
-has-shift (suc c) m =
-    has-shift c (m / 2)
-    ∙ ap (λ (x : ℕ). eqb (x % 2) 1) (div-div-eq-div-mul m 2 (2 ^ c) ∙ ap (λ (x : ℕ). m / x) (mul-comm 2 (2 ^ c) ∙ sym (pow-suc 2 c)))
+has-shift c m = sym (has-over c 0 m ∙ rw (add-zero c))
 
 -- a bit shifted, in a word of any width
 pub bit-shifted : (width b c : ℕ) → b < 2 → c < width → (b * 2 ^ c) % 2 ^ width ≡ b * 2 ^ c
