@@ -2,6 +2,7 @@ pub mod Machine
 pub mod MachineSteps
 pub mod StandsLaws
 pub mod StepNeeds
+pub mod Counting
 pub mod StepStands
 pub mod MachineStart
 pub mod Measure
@@ -14,3 +15,4 @@ pub mod Stepping
 pub mod Loading
 pub mod Finished
 pub mod RunStands
+pub mod CountsStand

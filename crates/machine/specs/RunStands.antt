@@ -20,7 +20,10 @@ use Rattle.machine.specs.Loading.{startRun, loaded-rules, loaded-stands}
 use Rattle.machine.specs.declared.Run.{Run}
 use Rattle.machine.specs.declared.Next.{Next}
 
--- the words after so many steps from the start
+-- the state of the search after so many steps, and the words of the machine
+abbrev pub stateAfter : Problem → ℕ → ℕ → State
+stateAfter p budget n = cameTo (run (taskOf p) budget n (start (taskOf p)))
+
 abbrev pub valuesAfter : List ℕ → Sizes → ℕ → ℕ → Machine → Values
 valuesAfter rules sizes budget n m = machineRun rules sizes budget n m (startRun sizes) .arrays .trail .values
 
@@ -43,6 +46,15 @@ module _ (p : Problem) (budget : ℕ) (rules : List ℕ) (rulesStand : RulesStan
           → ((s : State) (m : Machine) (r : Run) → Stands p budget s m r → AsRun n s m r) → AsRun (suc n) s m r
       from (more next) e (after, q, stands) rest = rw (e, run, q, machineRun) (rest next (one m r .arrays) after stands)
       from (done v last) e (after, q, stands) rest = rw (e, run, q, machineRun) (after, q, stands)
+
+-- a search that starts in loaded arrays
+pub loaded-run : (p : Problem) (sizes : Sizes) (rules : List ℕ) (m : Machine) → Loaded p sizes rules m → (budget n : ℕ)
+    → NextStands p budget (run (taskOf p) budget n (start (taskOf p))) (machineRun rules sizes budget n m (startRun sizes) .next) (machineRun rules sizes budget n m (startRun sizes) .arrays)
+loaded-run p sizes rules m loaded budget n =
+    let s = start (taskOf p) in
+    subst (λ (z : Sizes). NextStands p budget (run (taskOf p) budget n s) (machineRun rules z budget n m (startRun sizes) .next) (machineRun rules z budget n m (startRun sizes) .arrays))
+    (sym (loaded .counts))
+    (run-stands p budget rules (loaded-rules p sizes budget rules m loaded) n s m (startRun sizes) (loaded-stands p sizes budget rules m loaded))
 
 -- ── what the words say ──
 
@@ -68,9 +80,5 @@ module _ (p : Problem) (limits : Searchable p) where
 
 -- after however many steps, the last too
 pub run-words : (p : Problem) (sizes : Sizes) (rules : List ℕ) (m : Machine) → Loaded p sizes rules m → (budget n : ℕ)
-    → WordsStand p (cameTo (run (taskOf p) budget n (start (taskOf p)))) (valuesAfter rules sizes budget n m)
-run-words p sizes rules m loaded budget n =
-    let s = start (taskOf p) in
-    subst (λ (z : Sizes). WordsStand p (cameTo (run (taskOf p) budget n s)) (machineRun rules z budget n m (startRun sizes) .arrays .trail .values)) (sym (loaded .counts))
-    (next-words p (loaded .limits) budget (run (taskOf p) budget n s) _ _
-    (run-stands p budget rules (loaded-rules p sizes budget rules m loaded) n s m (startRun sizes) (loaded-stands p sizes budget rules m loaded)))
+    → WordsStand p (stateAfter p budget n) (valuesAfter rules sizes budget n m)
+run-words p sizes rules m loaded budget n = next-words p (loaded .limits) budget (run (taskOf p) budget n (start (taskOf p))) _ _ (loaded-run p sizes rules m loaded budget n)

@@ -66,10 +66,10 @@ unset-room k s f l m u =
         ]
 
 module _ (p : Problem) (budget : ℕ) (s : State) (m : Machine) (run : Run) (h : Stands p budget s m run) where
-  trail-consistent : Consistent (s .trail)
+  pub trail-consistent : Consistent (s .trail)
   trail-consistent = consistent (taskOf p) (h .sound .inv .trailed)
 
-  trail-decided : DecidedTrue (s .trail)
+  pub trail-decided : DecidedTrue (s .trail)
   trail-decided = decided-true (taskOf p) (h .sound .inv .trailed)
 
   -- a literal of the table is true just where its word is, and a true literal is one of the table

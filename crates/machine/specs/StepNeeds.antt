@@ -11,7 +11,7 @@ use borrow.Author.Tests.{eqb-false, not-true}
 use Rattle.definitions.specs.Lists.{_∈_}
 use Rattle.definitions.specs.Words.{Atom, Literal, plain, Problem}
 use Rattle.definitions.specs.Instances.{taskOf}
-use Rattle.definitions.specs.Search.{State, Act, conflict, force, nextGoal, backtrack}
+use Rattle.definitions.specs.Search.{State, Act, conflict, force, nextAct, nextGoal, backtrack}
 use Rattle.theory.specs.Limits.{few-literals}
 use Rattle.theory.specs.Tests.{by-option, apart, and-left}
 use Rattle.theory.specs.ListLaws.{all-each}
@@ -84,11 +84,13 @@ module _ (budget : ℕ) (rules : List ℕ) (sizes : Sizes) (m : Machine) (run : 
   units-fit = (omega (arith, its-goals p (running .counts), running .rulesStand .limits .goals), rw (its-clauses p (running .counts)) (h .log .fit))
 
   -- a unit
-  pub unit-fits : (w : ℕ) → actOf sizes m run ≡ Force w → (run .set < 256) × (w < 512)
+  pub unit-literal : (w : ℕ) → actOf sizes m run ≡ Force w → (l : Literal) × (nextAct (taskOf p) s ≡ some (force l)) × (w ≡ literalWord (s .table) l)
   unfolding sizesOf
+  unit-literal w e = force-of (s .table) _ w (sym (ap (λ (x : Sizes). actOf x m run) (running .counts) ∙ act-as p budget s m run h) ∙ e)
+
+  pub unit-fits : (w : ℕ) → actOf sizes m run ≡ Force w → (run .set < 256) × (w < 512)
   unit-fits w e =
-      let acts = sym (ap (λ (x : Sizes). actOf x m run) (running .counts) ∙ act-as p budget s m run h) ∙ e in
-      let (l, q, its) = force-of (s .table) _ w acts in
+      let (l, q, its) = unit-literal w e in
       let (inside, unset) = unit-unset p budget s m run h l q in
       (room-for p budget s m run h l inside unset, rw its (word-small (s .table) l (h .room .table-size) inside))
 

@@ -1,5 +1,5 @@
--- Step A in the code's terms: the loop over a logged clause's heads, what may be set, and the loop over the clauses. Assumes nothing.
-use Prim.Native.Nat.{ℕ, suc, _+_, _-_, _*_, _≤_, _<_}
+-- What a clause asks for in the code's terms: the loop over a logged clause's heads, and what may be set. Assumes nothing.
+use Prim.Native.Nat.{ℕ, _+_, _-_, _*_, _≤_, _<_}
 use mathlib.Core.Path.{_≡_, sym, _∙_, ap}
 use mathlib.Core.Bool.{Bool, true, false, not, _&&_}
 use mathlib.Core.List.{List}
@@ -9,12 +9,11 @@ use borrow.Author.Tests.{lt-ltb, le-ltb, not-true, not-false}
 use Rattle.encoding.specs.Lengths.{literalArray}
 use Rattle.definitions.specs.Lists.{all}
 use Rattle.encoding.specs.Values.{Values, falseWord}
-use Rattle.encoding.specs.ArrayLaws.{part-cons, part-nil, getD-rising}
+use Rattle.encoding.specs.ArrayLaws.{part-cons, part-nil}
 use Rattle.units.specs.Scan.{look}
-use Rattle.units.specs.Units.{clauseAt, maySet, actAt, actFrom, ClausesFit}
+use Rattle.units.specs.Units.{clauseAt, maySet, actAt, ClausesFit}
 use Rattle.units.specs.declared.Seen.{Seen}
 use Rattle.units.specs.declared.Seen.the-variants.{AllFalse, One, Open}
-use Rattle.units.specs.declared.UnitAct.{UnitAct}
 use Rattle.units.specs.declared.UnitAct.the-variants.{Conflict, Force, Nothing}
 
 -- ── the loop over words ──
@@ -41,30 +40,16 @@ module _ (values : Values) (words : List ℕ) (end i : ℕ) {b : Bool} (left : a
 
 -- ── what the callees ask for ──
 
--- the first of the clauses fit too
-module _ {starts literals heads : List ℕ} {given : ℕ} where
-  pub fit-first : (n m : ℕ) → m ≤ n → ClausesFit starts literals heads given n → ClausesFit starts literals heads given m
-  fit-first n m h f =
-      let up : getD starts m 0 ≤ getD starts n 0 = getD-rising starts n (f .rising) m h in
-      record {
-        few = omega (arith, f .few);
-        limit = omega (arith, f .limit);
-        rising = λ c l. f .rising c (omega arith);
-        inside = λ c l. f .inside c (omega arith);
-        words = λ i l. f .words i (omega arith);
-        heads-inside = λ c l k. f .heads-inside c l (omega arith);
-      }
+module _ {starts literals heads : List ℕ} {given : ℕ} (c : ℕ) {from : ℕ} (f : ClausesFit starts literals heads given (c + 1)) (from-is : from ≡ getD starts c 0) where
+  pub clause-within : {end : ℕ} → end ≡ getD starts (c + 1) 0
+      → (from ≤ end) × (end ≤ literalArray) × ((i : ℕ) → i < end → getD literals i 0 < 512)
+  clause-within e = (omega (arith, f .rising c (omega arith)), omega (arith, f .inside (c + 1) (omega arith)), λ i l. f .words i (omega arith))
 
-  module _ (c : ℕ) {from : ℕ} (f : ClausesFit starts literals heads given (c + 1)) (from-is : from ≡ getD starts c 0) where
-    pub clause-within : {end : ℕ} → end ≡ getD starts (c + 1) 0
-        → (from ≤ end) × (end ≤ literalArray) × ((i : ℕ) → i < end → getD literals i 0 < 512)
-    clause-within e = (omega (arith, f .rising c (omega arith)), omega (arith, f .inside (c + 1) (omega arith)), λ i l. f .words i (omega arith))
-
-    pub heads-within : {count : ℕ} → given ≤ c → count ≡ getD heads (c - given) 0
-        → (from + count ≤ literalArray) × ((i : ℕ) → i < from + count → getD literals i 0 < 512)
-    heads-within l e =
-        let h : getD starts c 0 + getD heads (c - given) 0 ≤ getD starts (c + 1) 0 = f .heads-inside c l (omega arith) in
-        (omega (arith, f .inside (c + 1) (omega arith)), λ i k. f .words i (omega arith))
+  pub heads-within : {count : ℕ} → given ≤ c → count ≡ getD heads (c - given) 0
+      → (from + count ≤ literalArray) × ((i : ℕ) → i < from + count → getD literals i 0 < 512)
+  heads-within l e =
+      let h : getD starts c 0 + getD heads (c - given) 0 ≤ getD starts (c + 1) 0 = f .heads-inside c l (omega arith) in
+      (omega (arith, f .inside (c + 1) (omega arith)), λ i k. f .words i (omega arith))
 
 -- ── what clause c asks for ──
 
@@ -103,30 +88,3 @@ module _ (values : Values) (starts literals heads : List ℕ) (given goals c : �
     pub act-open : seen ≡ Open → Nothing ≡ actAt values starts literals heads given goals c
     unfolding actAt clauseAt
     act-open e = cc
-
--- ── the loop over the clauses ──
-
-module _ (values : Values) (starts literals heads : List ℕ) (given goals : ℕ) where
-  pub act-start : (n : ℕ) → actFrom values starts literals heads given goals 0 (n - 0) ≡ actFrom values starts literals heads given goals 0 n
-  act-start n = let e : n - 0 ≡ n = omega arith in rw e
-
-  module _ (c n : ℕ) {x : UnitAct} (left : actFrom values starts literals heads given goals c (n - c) ≡ x) where
-    module _ (less : c < n) {a : UnitAct} (does : a ≡ actAt values starts literals heads given goals c) where
-      pub act-turn : a ≡ Nothing → actFrom values starts literals heads given goals (c + 1) (n - (c + 1)) ≡ x
-      unfolding actFrom
-      act-turn e =
-          let f : n - c ≡ suc (n - (c + 1)) = omega arith in
-          let g : c + 1 ≡ suc c = omega arith in
-          cc
-
-      pub act-hit : a ≡ Conflict → Conflict ≡ x
-      unfolding actFrom
-      act-hit e = let f : n - c ≡ suc (n - (c + 1)) = omega arith in cc
-
-      pub act-hit-force : (w : ℕ) → a ≡ Force w → Force w ≡ x
-      unfolding actFrom
-      act-hit-force w e = let f : n - c ≡ suc (n - (c + 1)) = omega arith in cc
-
-    pub act-end : n ≤ c → Nothing ≡ x
-    unfolding actFrom
-    act-end h = let f : n - c ≡ 0 = omega arith in cc

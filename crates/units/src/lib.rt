@@ -1,4 +1,4 @@
-// Step A and the trail. Step A takes the first clause, goal clauses and then the log, that is a conflict or sets its one unset literal.
+// What a clause asks for in step A, and the trail.
 mod scan; // scan.rt: what a clause's literals say
 pub mod trail; // trail.rt: setting and undoing
 
@@ -8,7 +8,7 @@ ghost use lib.ListN.{getD, take, drop};
 ghost use Rattle.encoding.specs.Lengths.{literalArray};
 ghost use Rattle.definitions.specs.Lists.{all};
 ghost use Rattle.encoding.specs.Values.{falseWord};
-ghost use Rattle.units.specs.Units.{maySet, actAt, actFrom, ClausesFit};
+ghost use Rattle.units.specs.Units.{maySet, actAt, ClausesFit};
 use encoding::LITERALS;
 use encoding::LOGGED;
 use encoding::STARTS;
@@ -22,7 +22,7 @@ pub enum Seen {
     Open,
 }
 
-// What step A comes to.
+// What a clause asks for, and step A by the first clause that asks for something: a conflict, a literal to be set, or nothing.
 pub enum UnitAct {
     Conflict,
     Force(u16),
@@ -74,7 +74,7 @@ fn may_set(
 }
 
 // What clause c asks for.
-fn act_at(
+pub fn act_at(
     values: &Values,
     starts: &[u16; STARTS],
     literals: &[u16; LITERALS],
@@ -99,33 +99,4 @@ fn act_at(
         }
         Seen::Open => UnitAct::Nothing,
     }
-}
-
-// Step A over the first clauses.
-pub fn next_act(
-    values: &Values,
-    starts: &[u16; STARTS],
-    literals: &[u16; LITERALS],
-    heads: &[u8; LOGGED],
-    given: usize,
-    goals: usize,
-    clauses: usize,
-) -> UnitAct
-    requires { ⌜ (goals ≤ 256) × ClausesFit (now starts) (now literals) (now heads) given clauses ⌝ }
-    ensures { λ r. ⌜ r ≡ actFrom (now (values .entry)) (now (starts .entry)) (now (literals .entry)) (now (heads .entry)) given goals 0 clauses ⌝ }
-{
-    let mut c: usize = 0;
-    while c < clauses {
-        match act_at(values, starts, literals, heads, given, goals, c) {
-            UnitAct::Conflict => {
-                return UnitAct::Conflict;
-            }
-            UnitAct::Force(w) => {
-                return UnitAct::Force(w);
-            }
-            UnitAct::Nothing => {}
-        }
-        c += 1;
-    }
-    UnitAct::Nothing
 }

@@ -1,0 +1,12 @@
+pub mod Counters
+pub mod Weights
+pub mod Resting
+pub mod SetPasses
+pub mod Kept
+pub mod CounterLaws
+pub mod Passes
+pub mod Setting
+pub mod Undoing
+pub mod Entering
+pub mod Asking
+pub mod TrailCounts
