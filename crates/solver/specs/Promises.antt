@@ -10,14 +10,14 @@ use mathlib.Core.Logic.{_⊎_}
 use mathlib.Core.Bool.{true, false, _||_}
 use mathlib.Core.List.{List, [], _++_, map}
 use lib.ListN.{length, take}
-use Rattle.definitions.specs.Lists.{_∈_, all, joined, distinct}
+use Rattle.definitions.specs.Lists.{_∈_, all, joined, distinct, upFrom}
 use Rattle.definitions.specs.Bounds.{sheetBytes, roomBytes, mostAtoms, mostExported, exportBytes}
 use Rattle.definitions.specs.Words.{Atom, Literal, sameLiteral, Clause, Rule, TwoWay, twoWay, Problem, goalAtoms}
 use Rattle.definitions.specs.Instances.{substitutions, Instance, Task, taskOf, FillingOf}
 use Rattle.definitions.specs.Meaning.{Choice, Fails, Assignment, SatisfiesClause, SatisfiesRule, SatisfiesLine, Satisfies}
 use Rattle.definitions.specs.Sheet.{Line, nothing, decimal}
 use Rattle.definitions.specs.Questions.{Asked, no, yes, columns, connected, hasReverse, standsFor, rulesOf, Draft, readLine, accepted, read}
-use Rattle.definitions.specs.Search.{Trail, isTrue, Logged, clauseOf, notFalse, actOn, isGoal, loggedAct, State, start, done, cameTo, run, search}
+use Rattle.definitions.specs.Search.{Trail, isTrue, Logged, clauseOf, notFalse, actOn, isGoal, loggedAct, nextAct, State, start, done, cameTo, run, search}
 use Rattle.definitions.specs.LiteralTest.{literalTest, TellsApart}
 use Rattle.definitions.specs.Verdicts.{FirstChoice, SpentWhen, FullWhen}
 use Rattle.definitions.specs.Dimacs.{Cnf, cnfOf, headerLine, cnfText, readCnf, CnfLimits}
@@ -34,6 +34,7 @@ use Rattle.theory.specs.CallLaws.{call-comes, answer-from-search, its-search}
 use Rattle.theory.specs.TruthLaws.{search-tells-apart}
 use Rattle.theory.specs.TwoWayLaws.{equivalence-rules, rules-equivalence, lines-rules}
 use Rattle.theory.specs.Limits.{accepted-from-lines}
+use Rattle.theory.specs.ClauseNumbers.{numbersOf, mayAct, nextActAmong, clausesOf}
 use Rattle.theory.specs.Demand3.{never-satisfied, never-unknown}
 use Rattle.theory.specs.Connected.{connected-heads, head-apart}
 use Rattle.theory.specs.BlankColumns.{nothing-blank, passed-over, blank-line, same-reading, same-accepted, same-results, same-keeps}
@@ -50,6 +51,9 @@ use Rattle.encoding.specs.declared.Sizes.{Sizes}
 use Rattle.machine.specs.Machine.{Machine, Loaded}
 use Rattle.machine.specs.Loading.{accepted-arrays}
 use Rattle.machine.specs.RunStands.{valuesAfter, run-words}
+use Rattle.counters.specs.Counters.{told}
+use Rattle.counters.specs.Kept.{askAt}
+use Rattle.machine.specs.CountsStand.{countersAfter, run-numbers}
 use Rattle.cnf_reader.specs.CnfArrays.{cnfRead, heldClauses}
 use Rattle.cnf_reader.specs.CnfArrayLaws.{cnf-held}
 
@@ -228,19 +232,19 @@ request-6-arrays = accepted-arrays
 
 -- By the contract of `one_step` a step of the code is one of `machineStep`, so `valuesAfter` are the words after so many of them. However many
 -- they are, and where the search ends too,
-module _ (p : Problem) (sizes : Sizes) (rules : List ℕ) (m : Machine) (loaded : Loaded p sizes rules m) (budget steps : ℕ) where
-  abbrev reached : State
-  reached = cameTo (run (taskOf p) budget steps (start (taskOf p)))
+abbrev reached : Problem → ℕ → ℕ → State
+reached p budget steps = cameTo (run (taskOf p) budget steps (start (taskOf p)))
 
+module _ (p : Problem) (sizes : Sizes) (rules : List ℕ) (m : Machine) (loaded : Loaded p sizes rules m) (budget steps : ℕ) where
   abbrev words : Values
   words = valuesAfter rules sizes budget steps m
 
   -- bit k of each word says what the trail says of goal atom k,
-  pub request-6 : GoalWords (goalAtoms (p .clauses)) (reached .trail) (goalsSet words) (goalsTrue words)
+  pub request-6 : GoalWords (goalAtoms (p .clauses)) (reached p budget steps .trail) (goalsSet words) (goalsTrue words)
   request-6 = run-words p sizes rules m loaded budget steps .goals
 
   -- and with those of the created atoms the words give the table of states that was kept before.
-  pub request-6-table : statesIn words ≡ stateTable (reached .table) (reached .trail)
+  pub request-6-table : statesIn words ≡ stateTable (reached p budget steps .table) (reached p budget steps .trail)
   request-6-table = run-words p sizes rules m loaded budget steps .states
 
 -- The other way, the table gives the words: where two have one table, they are equal. All answers and listings are equal, since the contracts
@@ -276,3 +280,24 @@ module _ (sheet : List ℕ) (p : Problem) (reads : read sheet ≡ accepted p) wh
   -- Whatever satisfies it still satisfies every filling of all of them.
   pub request-7-rules : (v : Assignment) → Satisfies v p → (r : Rule) → r ∈ p .rules → SatisfiesRule v (p .constants) r
   request-7-rules v satisfies = lines-rules v p (accepted-from-lines sheet p reads) (satisfies .lines)
+
+-- 8/14. Of each clause, goal clauses and log, a search keeps how many of its different literals are not false and whether any is true. By the
+-- contracts of `enter_all` and `one_step` the arrays in which it does are `countersAfter` so many steps. However many they are, and where the
+-- search ends too,
+module _ (p : Problem) (sizes : Sizes) (rules : List ℕ) (m : Machine) (loaded : Loaded p sizes rules m) (budget steps : ℕ) where
+  abbrev clauses : List Clause
+  clauses = clausesOf (p .clauses) (reached p budget steps)
+
+  -- the kept numbers are those found by reading each clause whole,
+  pub request-8 : map told (take (length clauses) (countersAfter rules sizes budget steps m .counts)) ≡ map (numbersOf (reached p budget steps .trail)) clauses
+  request-8 = run-numbers p sizes rules m loaded budget steps .numbers
+
+  -- the bits of the clauses that ask say which have no true literal and at most one that is not false,
+  pub request-8-asking : map (askAt (countersAfter rules sizes budget steps m .asking)) (upFrom 0 (length clauses))
+      ≡ map (λ (c : Clause). mayAct (numbersOf (reached p budget steps .trail) c)) clauses
+  request-8-asking = run-numbers p sizes rules m loaded budget steps .asking
+
+  -- and among these alone the unit step's choice is the one that it makes among all.
+  pub request-8-choice : nextActAmong (λ (c : Clause). mayAct (numbersOf (reached p budget steps .trail) c)) (taskOf p) (reached p budget steps)
+      ≡ nextAct (taskOf p) (reached p budget steps)
+  request-8-choice = run-numbers p sizes rules m loaded budget steps .choice
