@@ -16,9 +16,9 @@ use Rattle.cnf_reader.specs.CnfArrays.{numberWord}
 use Rattle.cnf_reader.specs.Lines.{literalFound, CnfLineRead}
 use Rattle.cnf_reader.specs.declared.parts.Behind.the-variants.{At, Nowhere}
 use Rattle.cnf_reader.specs.declared.parts.DecimalAt.the-variants.{Decimal, NoDecimal}
-use Rattle.cnf_reader.specs.declared.lines.LiteralAt.the-variants.{Literal, NoLiteral}
-use Rattle.cnf_reader.specs.declared.lines.LineAt.{LineAt}
-use Rattle.cnf_reader.specs.declared.lines.LineAt.the-variants.{Line, NoLine}
+use Rattle.cnf_reader.specs.declared.clause_lines.LiteralAt.the-variants.{Literal, NoLiteral}
+use Rattle.cnf_reader.specs.declared.clause_lines.LineAt.{LineAt}
+use Rattle.cnf_reader.specs.declared.clause_lines.LineAt.the-variants.{Line, NoLine}
 use Rattle.cnf_reader.proofs.Places.{behind-end, byte-here}
 
 -- ── one literal ──

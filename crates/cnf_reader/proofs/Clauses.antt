@@ -18,7 +18,7 @@ use Rattle.column.specs.Sets.{sets-append}
 use Rattle.encoding.specs.Encoding.{startsFrom}
 use Rattle.cnf_reader.specs.CnfArrays.{numberWord}
 use Rattle.cnf_reader.specs.Lines.{CnfLineHeld, CnfLineRead, ClausesRead}
-use Rattle.cnf_reader.specs.declared.lines.LineAt.the-variants.{Line, NoLine}
+use Rattle.cnf_reader.specs.declared.clause_lines.LineAt.the-variants.{Line, NoLine}
 use Rattle.cnf_reader.proofs.Places.{behind-end, byte-here}
 
 module _ (text : List ℕ) (atoms left at i used : ℕ) (starts literals : List ℕ) where

@@ -11,10 +11,10 @@ use Rattle.definitions.specs.Questions.{Asked, no, yes}
 use Rattle.definitions.specs.Dimacs.{Front, front}
 use Rattle.encoding.specs.Encoding.{startsFrom}
 use Rattle.cnf_reader.specs.CnfArrays.{numberWord}
-use Rattle.cnf_reader.specs.declared.lines.LiteralAt.{LiteralAt}
-use Rattle.cnf_reader.specs.declared.lines.LiteralAt.the-variants.{Literal, NoLiteral}
-use Rattle.cnf_reader.specs.declared.lines.LineAt.{LineAt}
-use Rattle.cnf_reader.specs.declared.lines.LineAt.the-variants.{Line, NoLine}
+use Rattle.cnf_reader.specs.declared.clause_lines.LiteralAt.{LiteralAt}
+use Rattle.cnf_reader.specs.declared.clause_lines.LiteralAt.the-variants.{Literal, NoLiteral}
+use Rattle.cnf_reader.specs.declared.clause_lines.LineAt.{LineAt}
+use Rattle.cnf_reader.specs.declared.clause_lines.LineAt.the-variants.{Line, NoLine}
 
 unfoldable pub literalFound : List ℕ → LiteralAt → Asked (Front Number)
 literalFound text (Literal negative size next) = yes (front (record { negative = negative; size = size }) (drop next text))

@@ -1,6 +1,6 @@
 // Clauses from a text in DIMACS CNF, by value.
 mod parts; // parts.rt: bytes, decimals and the header
-mod lines; // lines.rt: literals and clause lines
+mod clause_lines; // clause_lines.rt: literals and clause lines
 
 ghost use mathlib.Core.Path.{_≡_};
 ghost use Rattle.definitions.specs.Dimacs.{readCnf};
@@ -51,7 +51,7 @@ pub fn read_cnf(text: &[u8]) -> CnfRead
     };
     let mut starts = [0u16; STARTS];
     let mut literals = [0u16; WORDS];
-    if lines::read_clauses(
+    if clause_lines::read_clauses(
         text,
         next,
         atoms,

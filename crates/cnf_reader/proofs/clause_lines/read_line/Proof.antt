@@ -1,4 +1,4 @@
--- `lines::read_line` meets its contract: whatever reads the rest of the line, with the words that stand reads all of it. Assumes nothing.
+-- `clause_lines::read_line` meets its contract: whatever reads the rest of the line, with the words that stand reads all of it. Assumes nothing.
 use Prim.Native.Nat.{ℕ, _+_, _-_, _≤_}
 use mathlib.Core.Path.{_≡_, sym, _∙_}
 use mathlib.Core.List.{List}
@@ -8,11 +8,11 @@ use borrow.Author.Needs.{needs}
 use Rattle.definitions.specs.Dimacs.{clauseLineAt}
 use Rattle.cnf_reader.specs.CnfArrays.{numberWord}
 use Rattle.cnf_reader.specs.Lines.{CnfLineRead, literalSize, lineEnd}
-use Rattle.cnf_reader.specs.declared.lines.LineAt.{LineAt}
-use Rattle.cnf_reader.specs.declared.lines.LineAt.the-variants.{NoLine}
+use Rattle.cnf_reader.specs.declared.clause_lines.LineAt.{LineAt}
+use Rattle.cnf_reader.specs.declared.clause_lines.LineAt.the-variants.{NoLine}
 use Rattle.cnf_reader.proofs.ClauseLines.{line-full, line-close, line-none, line-turn}
-use Rattle.cnf_reader.proofs.lines.read_line.Statement.{statement}
-use Rattle.cnf_reader.proofs.lines.read_line.Tie as tie
+use Rattle.cnf_reader.proofs.clause_lines.read_line.Statement.{statement}
+use Rattle.cnf_reader.proofs.clause_lines.read_line.Tie as tie
 
 abbrev Inv-loop : tie.InvT-loop
 Inv-loop text from atoms literals₀ used at₀ end₀ left₀ literals at end left =

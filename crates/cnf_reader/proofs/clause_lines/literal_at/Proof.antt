@@ -1,11 +1,11 @@
--- `lines::literal_at` meets its contract: a literal is its sign and a number of the range. Assumes nothing.
+-- `clause_lines::literal_at` meets its contract: a literal is its sign and a number of the range. Assumes nothing.
 use native.Mathlib.Omega.{arith}
 use Rattle.cnf_reader.specs.Parts.{decimalSize}
 use Rattle.cnf_reader.specs.Lines.{literalSize}
 use Rattle.cnf_reader.proofs.ClauseLines.{literal-none, literal-turn}
 use borrow.Author.Needs.{needs}
-use Rattle.cnf_reader.proofs.lines.literal_at.Statement.{statement}
-use Rattle.cnf_reader.proofs.lines.literal_at.Tie as tie
+use Rattle.cnf_reader.proofs.clause_lines.literal_at.Statement.{statement}
+use Rattle.cnf_reader.proofs.clause_lines.literal_at.Tie as tie
 
 sign-at-requires : tie.Need-sign-at-requires
 sign-at-requires c κs = search needs

@@ -1,4 +1,4 @@
--- `lines::read_clauses` meets its contract: whatever reads the clauses that are left, with those that stand reads all of them. Assumes nothing.
+-- `clause_lines::read_clauses` meets its contract: whatever reads the clauses that are left, with those that stand reads all of them. Assumes nothing.
 use Prim.Native.Nat.{ℕ, _+_, _-_, _*_, _≤_}
 use mathlib.Core.Path.{_≡_}
 use mathlib.Core.Bool.{Bool}
@@ -9,8 +9,8 @@ use borrow.Author.Needs.{needs}
 use Rattle.definitions.specs.Dimacs.{clausesAt}
 use Rattle.cnf_reader.specs.Lines.{lineEnd, ClausesRead}
 use Rattle.cnf_reader.proofs.Clauses.{clauses-end, clauses-none, clauses-turn}
-use Rattle.cnf_reader.proofs.lines.read_clauses.Statement.{statement}
-use Rattle.cnf_reader.proofs.lines.read_clauses.Tie as tie
+use Rattle.cnf_reader.proofs.clause_lines.read_clauses.Statement.{statement}
+use Rattle.cnf_reader.proofs.clause_lines.read_clauses.Tie as tie
 
 abbrev Inv-loop : tie.InvT-loop
 Inv-loop text from atoms clauses starts₀ literals₀ at₀ used₀ i₀ starts literals at used i =

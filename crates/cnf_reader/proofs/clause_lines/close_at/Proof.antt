@@ -1,10 +1,10 @@
--- `lines::close_at` meets its contract: the closing 0 and LF stand there, or not. Assumes nothing.
+-- `clause_lines::close_at` meets its contract: the closing 0 and LF stand there, or not. Assumes nothing.
 use native.Mathlib.Omega.{arith}
 use Rattle.cnf_reader.specs.Lines.{lineEnd}
 use Rattle.cnf_reader.proofs.ClauseLines.{close-read, close-none}
 use borrow.Author.Needs.{needs}
-use Rattle.cnf_reader.proofs.lines.close_at.Statement.{statement}
-use Rattle.cnf_reader.proofs.lines.close_at.Tie as tie
+use Rattle.cnf_reader.proofs.clause_lines.close_at.Statement.{statement}
+use Rattle.cnf_reader.proofs.clause_lines.close_at.Tie as tie
 
 slice-aggregate-skip-all : tie.Need-slice-aggregate-skip-all
 slice-aggregate-skip-all c = search needs

@@ -1,8 +1,8 @@
--- `lines::sign_at` meets its contract: behind the end, at a minus, and at another byte. Assumes nothing.
+-- `clause_lines::sign_at` meets its contract: behind the end, at a minus, and at another byte. Assumes nothing.
 use Rattle.cnf_reader.proofs.ClauseLines.{sign-end, sign-minus, sign-none}
 use borrow.Author.Needs.{needs}
-use Rattle.cnf_reader.proofs.lines.sign_at.Statement.{statement}
-use Rattle.cnf_reader.proofs.lines.sign_at.Tie as tie
+use Rattle.cnf_reader.proofs.clause_lines.sign_at.Statement.{statement}
+use Rattle.cnf_reader.proofs.clause_lines.sign_at.Tie as tie
 
 returns : tie.Need-returns
 returns c = sign-end _ _ (c .if1 .taken)

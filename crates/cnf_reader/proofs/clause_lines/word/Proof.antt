@@ -1,8 +1,8 @@
--- `lines::word` meets its contract, by the sign. Assumes nothing.
+-- `clause_lines::word` meets its contract, by the sign. Assumes nothing.
 use Rattle.encoding.specs.Signs.{wordOf}
 use borrow.Author.Needs.{needs}
-use Rattle.cnf_reader.proofs.lines.word.Statement.{statement}
-use Rattle.cnf_reader.proofs.lines.word.Tie as tie
+use Rattle.cnf_reader.proofs.clause_lines.word.Statement.{statement}
+use Rattle.cnf_reader.proofs.clause_lines.word.Tie as tie
 
 mul-result : tie.Need-mul-result
 mul-result c = search needs
