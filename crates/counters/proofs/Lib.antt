@@ -1,1 +1,2 @@
 pub mod ActTurns
+pub mod ClauseTurns

@@ -8,17 +8,17 @@ use lib.Dec.{leb}
 use lib.Count.{trailingZeros}
 use lib.Pow.{shr-le}
 use lib.ListN.{getD}
-use borrow.Author.Tests.{lt-ltb, leb-false}
+use borrow.Author.Tests.{lt-ltb, leb-true, leb-false}
 use Rattle.theory.specs.Tests.{true-and-false}
 use Rattle.bits.specs.Bits.{has, has-zero, has-high, has-lowest, none-lower, has-over}
 use Rattle.encoding.specs.CountLaws.{by-order}
 use Rattle.encoding.specs.Values.{Values}
-use Rattle.units.specs.Units.{clauseAt, actAt, actFrom}
+use Rattle.units.specs.Units.{clauseAt, maySet, actAt, actFrom}
 use Rattle.units.specs.declared.UnitAct.{UnitAct}
 use Rattle.units.specs.declared.UnitAct.the-variants.{Nothing}
-use Rattle.counters.specs.Weights.{weighs, once}
-use Rattle.counters.specs.Resting.{rests}
-use Rattle.counters.specs.Counters.{numberAsks, countersOf, counters}
+use Rattle.counters.specs.Weights.{whole-is-once}
+use Rattle.counters.specs.ByNumber.{rests}
+use Rattle.counters.specs.Counters.{readWhole, numberAsks, countersOf, counters}
 use Rattle.counters.specs.CounterLaws.{counters-kept}
 use Rattle.counters.specs.Kept.{askAt}
 
@@ -42,23 +42,47 @@ module _ (asking : List ℕ) (c i word : ℕ) (is : word ≡ getD asking (i / 64
       (λ l. so-far j a l)
 
   module _ (small : word < 2 ^ 64) (t : ℕ) (some : 0 < word / 2 ^ (i % 64)) (tz : t ≡ trailingZeros 64 (word / 2 ^ (i % 64))) where
-    in-word : i % 64 + t < 64
-    in-word =
+    here : has (i % 64 + t) word ≡ true
+    here =
         let smaller = shr-le word (i % 64) in
         let below : word / 2 ^ (i % 64) < 2 ^ 64 = omega arith in
-        let h : has (i % 64 + t) word ≡ true = sym (has-over (i % 64) t word) ∙ rw tz (has-lowest 64 (word / 2 ^ (i % 64)) some below) in
-        by-order 64 (i % 64 + t) (λ l. true-and-false h (has-high (i % 64 + t) 64 word small l)) (λ l. l)
+        sym (has-over (i % 64) t word) ∙ rw tz (has-lowest 64 (word / 2 ^ (i % 64)) some below)
 
-    pub next-here : (i < 640 → i + t < 640) × Unasked asking c (i + t)
+    in-word : i % 64 + t < 64
+    in-word = by-order 64 (i % 64 + t) (λ l. true-and-false here (has-high (i % 64 + t) 64 word small l)) (λ l. l)
+
+    pub next-here : (i < 640 → i + t < 640) × Unasked asking c (i + t) × (askAt asking (i + t) ≡ true)
+    unfolding askAt
     next-here =
-        let w = in-word in (
+        let w = in-word in
+        let bit : (i + t) % 64 ≡ i % 64 + t = omega arith in
+        let at : (i + t) / 64 ≡ i / 64 = omega arith in (
           λ l. omega arith,
           λ j a b. by-order i j
               (λ l.
               let s : j - i < trailingZeros 64 (word / 2 ^ (i % 64)) = omega arith in
               shifted j l (omega arith) ∙ none-lower 64 (j - i) (word / 2 ^ (i % 64)) s)
               (λ l. so-far j a l),
+          rw (bit, at, ← is) here,
         )
+
+-- ── the numbers of the clauses ──
+
+module _ (values : Values) (clause : ℕ → List ℕ) (clauses : ℕ) {rows counts asking : List ℕ} (few : clauses ≤ 640)
+    (its : counters rows counts asking ≡ countersOf values clause clauses) where
+  asks-by : (c : ℕ) → c < clauses → askAt asking c ≡ leb (getD counts c 0) 1
+  unfolding numberAsks
+  asks-by c l = rw (lt-ltb c clauses l) at (counters-kept values clause clauses few its .asks c (omega arith))
+
+  -- a clause's number is what reading it whole gives, and that of one that asks is 0 or 1
+  pub its-number : (c : ℕ) → c < clauses → getD counts c 0 ≡ readWhole values (clause c)
+  its-number c l = counters-kept values clause clauses few its .count c l ∙ sym (whole-is-once values (clause c))
+
+  pub asks-few : (c : ℕ) → c < clauses → askAt asking c ≡ true → getD counts c 0 ≤ 1
+  asks-few c l h = leb-true (getD counts c 0) 1 (sym (asks-by c l) ∙ h)
+
+  asks-not : (c : ℕ) → c < clauses → askAt asking c ≡ false → 2 ≤ readWhole values (clause c)
+  asks-not c l h = let many = leb-false (getD counts c 0) 1 (sym (asks-by c l) ∙ h) in omega (arith, its-number c l)
 
 -- ── clauses that don't ask are passed over ──
 
@@ -68,10 +92,6 @@ module _ (values : Values) (starts literals heads : List ℕ) (given goals : ℕ
 
   abbrev acts : ℕ → ℕ → UnitAct
   acts c n = actFrom values starts literals heads given goals c n
-
-  open-rests : (c : ℕ) → 2 ≤ once (weighs values) (clauseAt starts literals c) → act c ≡ Nothing
-  unfolding actAt
-  open-rests c l = rw (rests values (clauseAt starts literals c) l, actAt)
 
   skips : (c k n : ℕ) → ((i : ℕ) → c ≤ i → i < c + k → act i ≡ Nothing) → acts c (k + n) ≡ acts (c + k) n
   unfolding actFrom
@@ -84,13 +104,10 @@ module _ (values : Values) (starts literals heads : List ℕ) (given goals : ℕ
   module _ (clauses : ℕ) {rows counts asking : List ℕ} (few : clauses ≤ 640)
       (its : counters rows counts asking ≡ countersOf values (λ c. clauseAt starts literals c) clauses) where
     silent : (c : ℕ) → c < clauses → askAt asking c ≡ false → act c ≡ Nothing
-    unfolding numberAsks
+    unfolding actAt
     silent c l n =
-        let kept = counters-kept values (λ c. clauseAt starts literals c) clauses few its in
-        let e = sym (kept .asks c (omega arith)) ∙ n in
-        let big : leb (getD counts c 0) 1 ≡ false = rw (lt-ltb c clauses l) at e in
-        let b = leb-false (getD counts c 0) 1 big in
-        open-rests c (omega (arith, kept .count c l))
+        rests values (clauseAt starts literals c) (maySet values starts literals heads given goals c)
+        (asks-not values (λ c. clauseAt starts literals c) clauses few its c l n)
 
     to-next : (c r : ℕ) → c ≤ r → r ≤ clauses → Unasked asking c r → acts c (clauses - c) ≡ acts r (clauses - r)
     to-next c r a b h =

@@ -64,7 +64,7 @@ module _ (bit : ℕ → ℕ → Bool) (n : ℕ) where
 
 module _ (values : Values) (clause : ℕ → List ℕ) (clauses : ℕ) where
   abbrev rowBits : ℕ → ℕ → Bool
-  rowBits i j = rowBit values clause clauses (i / 10) (64 * (i % 10) + j)
+  rowBits i j = rowBit clause clauses (i / 10) (64 * (i % 10) + j)
 
   abbrev askBits : ℕ → ℕ → Bool
   askBits i j = askBit values clause clauses (64 * i + j)

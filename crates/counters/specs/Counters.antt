@@ -1,7 +1,7 @@
 -- What is kept of clauses, so that step A reads only those that ask for something: for each clause how many of its different literals are not
 -- false and how many are true, which clauses hold a literal, and which clauses ask. Assumes nothing.
 use Prim.Native.Nat.{ℕ, _+_, _*_, _/_, _%_}
-use mathlib.Core.Bool.{Bool, true, false, not, _&&_}
+use mathlib.Core.Bool.{Bool, true, false, _&&_}
 use mathlib.Core.List.{List, map}
 use denote.Triple.Both.{Both}
 use lib.Dec.{eqb, leb, ltb}
@@ -10,13 +10,14 @@ use Rattle.bits.specs.Bits.{packed}
 use Rattle.definitions.specs.Lists.{any, filter, distinct, upFrom}
 use Rattle.theory.specs.ClauseNumbers.{Numbers}
 use Rattle.encoding.specs.Lent.{Array, Lent}
-use Rattle.encoding.specs.Values.{Values, falseWord, trueWord}
+use Rattle.encoding.specs.Values.{Values, trueWord}
+use Rattle.units.specs.Units.{notFalseWords}
 
 -- ── a clause, read whole ──
 
 -- how many different words are not false, and how many are true
 unfoldable pub countNotFalse : Values → List ℕ → ℕ
-countNotFalse values ws = length (filter (λ (w : ℕ). not (falseWord values w)) (distinct eqb ws))
+countNotFalse values ws = length (notFalseWords values ws)
 
 unfoldable pub countTrue : Values → List ℕ → ℕ
 countTrue values ws = length (filter (trueWord values) (distinct eqb ws))
@@ -29,7 +30,7 @@ readWhole values ws = countNotFalse values ws + 256 * countTrue values ws
 unfoldable pub told : ℕ → Numbers
 told n = record { nonFalse = n % 256; anyTrue = leb 256 n }
 
--- none is true and at most one is not false: the clause asks for something, or may not set what it would
+-- none is true and at most one is not false: the clause asks for something, or for what it may not set
 unfoldable pub numberAsks : ℕ → Bool
 numberAsks n = leb n 1
 
@@ -44,10 +45,10 @@ pub record Counters : Type 0 where
   pub asking : List ℕ
 
 -- what they are for so many clauses: no other clause holds anything, counts or asks
-module _ (values : Values) (clause : ℕ → List ℕ) (clauses : ℕ) where
-  unfoldable pub rowBit : ℕ → ℕ → Bool
-  rowBit w c = ltb c clauses && any (eqb w) (clause c)
+unfoldable pub rowBit : (ℕ → List ℕ) → ℕ → ℕ → ℕ → Bool
+rowBit clause clauses w c = ltb c clauses && any (eqb w) (clause c)
 
+module _ (values : Values) (clause : ℕ → List ℕ) (clauses : ℕ) where
   unfoldable pub number : ℕ → ℕ
   number c = elim (ltb c clauses) [ true ↦ readWhole values (clause c) | false ↦ 0 ]
 
@@ -56,7 +57,7 @@ module _ (values : Values) (clause : ℕ → List ℕ) (clauses : ℕ) where
 
   unfoldable pub countersOf : Counters
   countersOf = record {
-    rows = map (λ (i : ℕ). packed 64 (λ (j : ℕ). rowBit (i / 10) (64 * (i % 10) + j))) (upFrom 0 5120);
+    rows = map (λ (i : ℕ). packed 64 (λ (j : ℕ). rowBit clause clauses (i / 10) (64 * (i % 10) + j))) (upFrom 0 5120);
     counts = map number (upFrom 0 640);
     asking = map (λ (k : ℕ). packed 64 (λ (j : ℕ). askBit (64 * k + j))) (upFrom 0 10);
   }

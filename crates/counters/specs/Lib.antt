@@ -1,6 +1,6 @@
 pub mod Counters
 pub mod Weights
-pub mod Resting
+pub mod ByNumber
 pub mod SetPasses
 pub mod Kept
 pub mod CounterLaws

@@ -212,6 +212,41 @@ module _ {k bits up down : ℕ} {counts₀ : List ℕ} where
 unfoldable pub firstOf : List ℕ → ℕ → ℕ → ℕ → Bool
 firstOf rows x k c = ltb c (64 * k) && rowAt rows x c
 
+-- a pass is the same over the same clauses
+moved-same : {row row′ : ℕ → Bool} {up down : ℕ} {counts asking counts′ asking′ : List ℕ} → ((c : ℕ) → c < 640 → row c ≡ row′ c)
+    → Moved row up down counts asking counts′ asking′ → Moved row′ up down counts asking counts′ asking′
+moved-same same m = record {
+  sizes = m .sizes;
+  below = m .below;
+  moved = λ c w. rw (← same c w) (m .moved c w);
+  asks = λ c w. rw (← same c w) (m .asks c w);
+}
+
+module _ (rows : List ℕ) (x k : ℕ) where
+  -- with one word more: its own clauses, which were none of those before, and the others as they were
+  behind : (c : ℕ) → c / 64 ≡ k → firstOf rows x k c ≡ false
+  unfolding firstOf
+  behind c q = rw (le-ltb c (64 * k) (omega arith))
+
+  here-row : {bits : ℕ} → bits ≡ getD rows (10 * x + k) 0 → (c : ℕ) → c / 64 ≡ k → firstOf rows x (k + 1) c ≡ has (c % 64) bits
+  unfolding firstOf rowAt
+  here-row is c q = rw (lt-ltb c (64 * (k + 1)) (omega arith), q, ← is)
+
+  far-row : (c : ℕ) → (c / 64 ≡ k → ⊥) → firstOf rows x (k + 1) c ≡ firstOf rows x k c
+  unfolding firstOf
+  far-row c n =
+      by-test (ltb c (64 * k))
+      (λ e. let l = ltb-true c (64 * k) e in rw (e, lt-ltb c (64 * (k + 1)) (omega arith)))
+      (λ e. let l = ltb-false c (64 * k) e in rw (e, le-ltb c (64 * (k + 1)) (omega (arith, n))))
+
+  -- a word that is 0 is passed over
+  pub pass-over : {bits up down : ℕ} {counts₀ asking₀ counts asking : List ℕ} → bits ≡ getD rows (10 * x + k) 0 → bits ≡ 0
+      → Moved (firstOf rows x k) up down counts₀ asking₀ counts asking → Moved (firstOf rows x (k + 1)) up down counts₀ asking₀ counts asking
+  pass-over is none m =
+      let same : (c : ℕ) → c < 640 → firstOf rows x k c ≡ firstOf rows x (k + 1) c = λ c w. by-test (eqb (c / 64) k)
+      (λ e. let q = eqb-true (c / 64) k e in behind c q ∙ sym (here-row is c q ∙ rw none (has-zero (c % 64))))
+      (λ e. sym (far-row c (eqb-false (c / 64) k e))) in moved-same same m
+
 module _ (rows : List ℕ) (x : ℕ) {up down : ℕ} {counts₀ asking₀ : List ℕ} where
   pub pass-start : Moved (firstOf rows x 0) up down counts₀ asking₀ counts₀ asking₀
   unfolding firstOf one-if pick
@@ -225,17 +260,13 @@ module _ (rows : List ℕ) (x : ℕ) {up down : ℕ} {counts₀ asking₀ : List
   module _ {counts asking : List ℕ} (k : ℕ) (few : k < 10) (size : length asking₀ ≡ 10)
       (m : Moved (firstOf rows x k) up down counts₀ asking₀ counts asking) where
     -- the numbers of the next word are as they were
-    behind : (c : ℕ) → c / 64 ≡ k → firstOf rows x k c ≡ false
-    unfolding firstOf
-    behind c q = rw (le-ltb c (64 * k) (omega arith))
-
     same-count : (c : ℕ) → c < 640 → c / 64 ≡ k → getD counts c 0 ≡ getD counts₀ c 0
     unfolding one-if
-    same-count c w q = let e = rw (behind c q, one-if) at (m .moved c w) in omega arith
+    same-count c w q = let e = rw (behind rows x k c q, one-if) at (m .moved c w) in omega arith
 
     same-ask : (c : ℕ) → c < 640 → c / 64 ≡ k → askAt asking c ≡ askAt asking₀ c
     unfolding pick
-    same-ask c w q = rw (behind c q, pick) at (m .asks c w)
+    same-ask c w q = rw (behind rows x k c q, pick) at (m .asks c w)
 
     pub pass-fits : (bits : ℕ) → bits ≡ getD rows (10 * x + k) 0
         → ((c : ℕ) → c < 640 → rowAt rows x c ≡ true → (down ≤ getD counts₀ c 0) × (getD counts₀ c 0 + up < 2 ^ 32)) → WordFits k bits up down counts
@@ -257,20 +288,9 @@ module _ (rows : List ℕ) (x : ℕ) {up down : ℕ} {counts₀ asking₀ : List
       unfolding askAt
       now-ask c q = rw (q, getD-set-same asking k next 0 (let s = m .sizes .1 in omega arith)) (next-has (c % 64) ∙ rw before)
 
-      here-row : (c : ℕ) → c / 64 ≡ k → firstOf rows x (k + 1) c ≡ has (c % 64) bits
-      unfolding firstOf rowAt
-      here-row c q = rw (lt-ltb c (64 * (k + 1)) (omega arith), q, ← is)
-
       here-in : (c : ℕ) → c / 64 ≡ k → inWord k bits c ≡ has (c % 64) bits
       unfolding inWord
       here-in c q = rw (eq-eqb (c / 64) k q)
-
-      far-row : (c : ℕ) → (c / 64 ≡ k → ⊥) → firstOf rows x (k + 1) c ≡ firstOf rows x k c
-      unfolding firstOf
-      far-row c n =
-          by-test (ltb c (64 * k))
-          (λ e. let l = ltb-true c (64 * k) e in rw (e, lt-ltb c (64 * (k + 1)) (omega arith)))
-          (λ e. let l = ltb-false c (64 * k) e in rw (e, le-ltb c (64 * (k + 1)) (omega (arith, n))))
 
       far-in : (c : ℕ) → (c / 64 ≡ k → ⊥) → inWord k bits c ≡ false
       unfolding inWord
@@ -292,13 +312,13 @@ module _ (rows : List ℕ) (x : ℕ) {up down : ℕ} {counts₀ asking₀ : List
           let q = eqb-true (c / 64) k e in
           let p : 64 * k + c % 64 ≡ c = omega arith in
           let low-is : has (c % 64) low ≡ (has (c % 64) bits && numberAsks (getD counts′ c 0)) = rw p at (d .lows (c % 64) (omega arith)) in
-          rw (here-row c q)
+          rw (here-row rows x k is c q)
           (by-test (has (c % 64) bits)
           (λ b. rw (b, pick) (now-ask c q ∙ rw (low-is, b, and-false (askAt asking c))))
           (λ b. rw (b, pick) (now-ask c q ∙ rw (low-is, b, and-true (askAt asking c)) (or-false (askAt asking c)) ∙ same-ask c w q))))
           (λ e.
           let n = eqb-false (c / 64) k e in
-          rw (far-row c n, far-count c w n) (far-ask c n ∙ m .asks c w))
+          rw (far-row rows x k c n, far-count c w n) (far-ask c n ∙ m .asks c w))
 
       pub pass-turn : Moved (firstOf rows x (k + 1)) up down counts₀ asking₀ counts′ (set asking k (bitOr (a - bitAnd a bits) low))
       pass-turn = record {
@@ -316,10 +336,10 @@ module _ (rows : List ℕ) (x : ℕ) {up down : ℕ} {counts₀ asking₀ : List
             let q = eqb-true (c / 64) k e in
             let s = same-count c w q in
             let b : getD counts′ c 0 + one-if (has (c % 64) bits) down ≡ getD counts c 0 + one-if (has (c % 64) bits) up = rw (here-in c q) at (d .moved c w) in
-            rw (here-row c q, ← s) b)
+            rw (here-row rows x k is c q, ← s) b)
             (λ e.
             let n = eqb-false (c / 64) k e in
-            rw (far-row c n, far-count c w n) (m .moved c w));
+            rw (far-row rows x k c n, far-count c w n) (m .moved c w));
         asks = turn-asks;
       }
 
@@ -330,10 +350,4 @@ pub pass-end : (rows : List ℕ) (x words : ℕ) {up down : ℕ} {counts asking 
 unfolding firstOf
 pass-end rows x words h m =
     let same : (c : ℕ) → c < 640 → firstOf rows x words c ≡ rowAt rows x c =
-    λ c w. by-test (ltb c (64 * words)) (λ e. rw e) (λ e. rw (e, h c w (ltb-false c (64 * words) e))) in
-    record {
-      sizes = m .sizes;
-      below = m .below;
-      moved = λ c w. rw (← same c w) (m .moved c w);
-      asks = λ c w. rw (← same c w) (m .asks c w);
-    }
+    λ c w. by-test (ltb c (64 * words)) (λ e. rw e) (λ e. rw (e, h c w (ltb-false c (64 * words) e))) in moved-same same m

@@ -15,6 +15,7 @@ use Rattle.definitions.specs.LiteralTest.{Value}
 use Rattle.theory.specs.Tests.{by-test}
 use Rattle.theory.specs.ListLaws.{any-append}
 use Rattle.encoding.specs.Values.{Values, sameValue, isFalseValue, isTrueValue, literalValue, falseWord, trueWord}
+use Rattle.units.specs.Units.{notFalseWords}
 use Rattle.counters.specs.Counters.{countNotFalse, countTrue, readWhole}
 
 -- ── weights ──
@@ -52,20 +53,20 @@ once f [] = 0
 once f (w ∷ ws) = elim (any (eqb w) ws) [ true ↦ once f ws | false ↦ f w + once f ws ]
 
 module _ (f : ℕ → ℕ) (w : ℕ) (ws : List ℕ) where
-  pub once-again : any (eqb w) ws ≡ true → once f (w ∷ ws) ≡ once f ws
+  once-again : any (eqb w) ws ≡ true → once f (w ∷ ws) ≡ once f ws
   unfolding once
   once-again e = rw (e, once)
 
-  pub once-new : any (eqb w) ws ≡ false → once f (w ∷ ws) ≡ f w + once f ws
+  once-new : any (eqb w) ws ≡ false → once f (w ∷ ws) ≡ f w + once f ws
   unfolding once
   once-new e = rw (e, once)
 
 module _ (x w : ℕ) (ws : List ℕ) where
-  pub any-here : x ≡ w → any (eqb x) (w ∷ ws) ≡ true
+  any-here : x ≡ w → any (eqb x) (w ∷ ws) ≡ true
   unfolding any
   any-here e = cc (eq-eqb x w e)
 
-  pub any-there : (x ≡ w → ⊥) → any (eqb x) (w ∷ ws) ≡ any (eqb x) ws
+  any-there : (x ≡ w → ⊥) → any (eqb x) (w ∷ ws) ≡ any (eqb x) ws
   unfolding any
   any-there n = cc (ne-eqb x w n)
 
@@ -212,7 +213,7 @@ once-distinct f (w ∷ ws) =
     (λ a. rw (a, once) (let d = rw (a, one-if) at c in omega arith))
 
 -- what is false is not true
-false-not-true : (v : Value) → isFalseValue v ≡ true → isTrueValue v ≡ false
+pub false-not-true : (v : Value) → isFalseValue v ≡ true → isTrueValue v ≡ false
 unfolding isFalseValue isTrueValue sameValue
 false-not-true (pos n) e = absurd (false≢true e)
 false-not-true (negsuc n) e = refl
@@ -231,5 +232,5 @@ counts-total values (w ∷ ws) =
     (λ t. rw (e, t, filter, total, weight) (omega arith)))
 
 pub whole-is-once : (values : Values) (ws : List ℕ) → readWhole values ws ≡ once (weighs values) ws
-unfolding readWhole countNotFalse countTrue weighs
+unfolding readWhole countNotFalse countTrue notFalseWords weighs
 whole-is-once values ws = counts-total values (distinct eqb ws) ∙ once-distinct (weighs values) ws

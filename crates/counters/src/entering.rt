@@ -95,7 +95,7 @@ pub fn enter_clause(
     let n = enter_words(values, literals, rows, from, end, c);
     let k = c / 64;
     let s = c % 64;
-    let low = passes::low_bit(n, 1u64 << s);
+    let low = passes::asking_bit(n, 1u64 << s);
     counts[c] = n;
     asking[k] = long::word(asking[k]) + low;
 }

@@ -12,13 +12,13 @@ use crate::WORDS;
 use bits::long;
 
 // The bit, if the number is that of a clause that asks.
-pub fn low_bit(n: u32, bit: u64) -> u64
+pub fn asking_bit(n: u32, bit: u64) -> u64
     ensures { λ r. ⌜ (r ≡ one-if (numberAsks n) bit) × (r ≤ bit) ⌝ }
 {
-    if n <= 1 {
-        return bit;
+    if 1 < n {
+        return 0;
     }
-    0
+    bit
 }
 
 // Changes the numbers of the clauses that are bits of word k, and gives those that ask then.
@@ -34,7 +34,7 @@ fn over_word(counts: &mut [u32; PLACES], k: usize, bits: u64, up: u32, down: u32
         let n = counts[c] + up - down;
         counts[c] = n;
         let bit = 1u64 << t;
-        low = low + low_bit(n, bit);
+        low = low + asking_bit(n, bit);
         m = m - bit;
     }
     low
@@ -58,6 +58,10 @@ pub fn over_row(
     while k < words {
         let at = first + k;
         let bits = long::word(rows[at]);
+        if bits == 0 {
+            k += 1;
+            continue;
+        }
         let low = over_word(counts, k, bits, up, down);
         let a = asking[k];
         asking[k] = (a - (a & bits)) | low;

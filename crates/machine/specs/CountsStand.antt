@@ -6,7 +6,7 @@ use mathlib.Core.Option.{some}
 use mathlib.Core.List.{List, [], _∷_, _++_, map, map-append, map-map, Memᴰ·append-left, Memᴰ·append-right, Memᴰ·map}
 use native.Mathlib.Nat.{zero-add}
 use native.Mathlib.Omega.{arith}
-use lib.Dec.{eqb, leb}
+use lib.Dec.{leb}
 use lib.ListN.{length, take, length-map, length-append}
 use lib.Seq.{take-at}
 use borrow.Author.Tests.{leb-true, leb-false, le-leb, lt-leb, lt-ltb}
@@ -16,8 +16,8 @@ use Rattle.definitions.specs.Instances.{taskOf}
 use Rattle.definitions.specs.Search.{Trail, isTrue, isFalse, Logged, clauseOf, State, notFalse, start, Outcome, more, done, cameTo, nextAct, run}
 use Rattle.theory.specs.Tests.{by-test}
 use Rattle.theory.specs.ListLaws.{filter-length}
-use Rattle.theory.specs.DistinctLaws.{distinct-in, distinct-length, any-distinct, filter-distinct}
-use Rattle.theory.specs.PlaceLaws.{getElem-in, upFrom-append, map-places, filter-alike, filter-map}
+use Rattle.theory.specs.DistinctLaws.{distinct-length, any-distinct}
+use Rattle.theory.specs.PlaceLaws.{getElem-in, upFrom-append, map-places}
 use Rattle.theory.specs.WordLaws.{sameLiteral-eq}
 use Rattle.theory.specs.SearchLaws.{Consistent}
 use Rattle.theory.specs.Unknown.{consistent}
@@ -26,11 +26,11 @@ use Rattle.theory.specs.ClauseNumbers.{numbersOf, mayAct, nextActAmong, clauses
 use Rattle.encoding.specs.CountLaws.{length-upFrom}
 use Rattle.encoding.specs.Encoding.{literalWord, clauseWords}
 use Rattle.encoding.specs.Standing.{Valued}
-use Rattle.encoding.specs.WordTruths.{true-word, false-word}
-use Rattle.encoding.specs.Values.{Values, falseWord, trueWord}
+use Rattle.encoding.specs.WordTruths.{true-word}
+use Rattle.encoding.specs.Values.{Values, trueWord}
 use Rattle.encoding.specs.declared.Sizes.{Sizes}
 use Rattle.units.specs.Units.{clauseAt}
-use Rattle.log.specs.LogWords.{words-distinct}
+use Rattle.units.specs.FalseWords.{words-left, not-false-words}
 use Rattle.counters.specs.Counters.{countNotFalse, countTrue, readWhole, told, numberAsks, number, Counters, countersOf}
 use Rattle.counters.specs.Kept.{askAt}
 use Rattle.counters.specs.CounterLaws.{ask-inside}
@@ -50,47 +50,36 @@ unfolding filter any
 some-left p [] = refl
 some-left p (x ∷ xs) = by-test (p x) (λ e. rw (e, filter) (le-leb 1 (suc (length (filter p xs))) (omega arith))) (λ e. rw (e, filter) (some-left p xs))
 
-module _ (table : List Atom) (c : Clause) (inside : (l : Literal) → l ∈ c → l .atom ∈ table) where
-  words-left : (p : ℕ → Bool) (q : Literal → Bool) → ((l : Literal) → l .atom ∈ table → p (literalWord table l) ≡ q l)
-      → length (filter p (distinct eqb (clauseWords table c))) ≡ length (filter q (distinct sameLiteral c))
-  unfolding clauseWords
-  words-left p q alike =
-      let different = distinct sameLiteral c in
-      ap (λ (ws : List ℕ). length (filter p ws)) (words-distinct table c inside)
-      ∙ ap length (filter-map p (literalWord table) different)
-      ∙ length-map (filter (λ (l : Literal). p (literalWord table l)) different) (literalWord table)
-      ∙ ap length (filter-alike (λ (l : Literal). p (literalWord table l)) q different (λ l m. alike l (inside l (distinct-in sameLiteral c l m))))
+module _ (table : List Atom) (t : Trail) (values : Values) (consistent : Consistent t) (valued : Valued table t values) (c : Clause) (inside : (l : Literal) → l ∈ c → l .atom ∈ table) where
+  not-false-count : countNotFalse values (clauseWords table c) ≡ length (notFalse t c)
+  unfolding countNotFalse clauseWords
+  not-false-count = ap length (not-false-words table t values consistent valued c inside) ∙ length-map (notFalse t c) (literalWord table)
 
-  module _ (t : Trail) (values : Values) (consistent : Consistent t) (valued : Valued table t values) where
-    not-false-words : countNotFalse values (clauseWords table c) ≡ length (notFalse t c)
-    unfolding countNotFalse notFalse
-    not-false-words =
-        words-left (λ (w : ℕ). not (falseWord values w)) (λ (l : Literal). not (isFalse t l)) (λ l m. ap not (false-word table t values valued consistent l m))
-        ∙ ap length (sym (filter-distinct sameLiteral sameLiteral-eq (λ (l : Literal). not (isFalse t l)) c))
+  any-true : leb 1 (countTrue values (clauseWords table c)) ≡ any (isTrue t) c
+  unfolding countTrue clauseWords
+  any-true =
+      ap (λ (ws : List ℕ). leb 1 (length ws)) (words-left table c inside (trueWord values) (isTrue t) (true-word table t values valued consistent))
+      ∙ ap (leb 1) (length-map (filter (isTrue t) (distinct sameLiteral c)) (literalWord table))
+      ∙ some-left (isTrue t) (distinct sameLiteral c)
+      ∙ any-distinct sameLiteral sameLiteral-eq (isTrue t) c
 
-    true-words : leb 1 (countTrue values (clauseWords table c)) ≡ any (isTrue t) c
-    unfolding countTrue
-    true-words =
-        ap (leb 1) (words-left (trueWord values) (isTrue t) (true-word table t values valued consistent))
-        ∙ some-left (isTrue t) (distinct sameLiteral c)
-        ∙ any-distinct sameLiteral sameLiteral-eq (isTrue t) c
+  few-left : length (notFalse t c) ≤ length c
+  unfolding notFalse
+  few-left =
+      let left = filter (λ (l : Literal). not (isFalse t l)) c in
+      omega (arith, distinct-length sameLiteral left, filter-length (λ (l : Literal). not (isFalse t l)) c)
 
-    few-left : length (notFalse t c) ≤ length c
-    unfolding notFalse
-    few-left =
-        let left = filter (λ (l : Literal). not (isFalse t l)) c in
-        omega (arith, distinct-length sameLiteral left, filter-length (λ (l : Literal). not (isFalse t l)) c)
-
-    words-told : length c < 256 → told (readWhole values (clauseWords table c)) ≡ numbersOf t c
-    unfolding told readWhole numbersOf
-    words-told short =
-        let n = countNotFalse values (clauseWords table c) in
-        let k = countTrue values (clauseWords table c) in
-        let low : (n + 256 * k) % 256 ≡ n = omega (arith, not-false-words, few-left) in
-        let high : leb 256 (n + 256 * k) ≡ leb 1 k = by-test (leb 1 k)
-        (λ e. let b = leb-true 1 k e in le-leb 256 (n + 256 * k) (omega arith) ∙ sym e)
-        (λ e. let b = leb-false 1 k e in lt-leb 256 (n + 256 * k) (omega (arith, not-false-words, few-left)) ∙ sym e) in
-        ap₂ (λ (a : ℕ) (b : Bool). record { nonFalse = a; anyTrue = b }) (low ∙ not-false-words) (high ∙ true-words)
+  words-told : length c < 256 → told (readWhole values (clauseWords table c)) ≡ numbersOf t c
+  unfolding told readWhole numbersOf
+  words-told short =
+      let n = countNotFalse values (clauseWords table c) in
+      let k = countTrue values (clauseWords table c) in
+      let small : n < 256 = omega (arith, not-false-count, few-left) in
+      let low : (n + 256 * k) % 256 ≡ n = omega arith in
+      let high : leb 256 (n + 256 * k) ≡ leb 1 k = by-test (leb 1 k)
+      (λ e. let b = leb-true 1 k e in le-leb 256 (n + 256 * k) (omega arith) ∙ sym e)
+      (λ e. let b = leb-false 1 k e in lt-leb 256 (n + 256 * k) (omega arith) ∙ sym e) in
+      ap₂ (λ (a : ℕ) (b : Bool). record { nonFalse = a; anyTrue = b }) (low ∙ not-false-count) (high ∙ any-true)
 
 -- ── clause by clause ──
 
@@ -158,7 +147,7 @@ module _ {Counts : Type 0} (p : Problem) (limits : Searchable p) (s : State) (m 
   clause-told i c its same =
       let (short, inside) = clauses-short p limits s (h .sound) c its in
       ap (λ (ws : List ℕ). told (readWhole (m .trail .values) ws)) same
-      ∙ words-told (s .table) c inside (s .trail) (m .trail .values) trail-consistent (h .trail .valued) (omega arith)
+      ∙ words-told (s .table) (s .trail) (m .trail .values) trail-consistent (h .trail .valued) c inside (omega arith)
 
   numbers-told : map told (take (length all) (countersIn m r .counts)) ≡ map (numbersOf (s .trail)) all
   unfolding countersOf

@@ -142,7 +142,7 @@ module _ (t : Trail) where
   unfolding notFalse
   notFalse-of c l m h = distinct-of sameLiteral sameLiteral-eq _ l (filter-of _ c l m (cc))
 
-  notFalse-in : (c : Clause) (l : Literal) → l ∈ notFalse t c → (l ∈ c) × (isFalse t l ≡ false)
+  pub notFalse-in : (c : Clause) (l : Literal) → l ∈ notFalse t c → (l ∈ c) × (isFalse t l ≡ false)
   unfolding notFalse
   notFalse-in c l m = let (n, h) = filter-in _ c l (distinct-in sameLiteral _ l m) in (n, not-true (isFalse t l) h)
 

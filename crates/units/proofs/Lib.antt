@@ -1,3 +1,1 @@
-pub mod ScanTurns
 pub mod TrailTurns
-pub mod UnitTurns

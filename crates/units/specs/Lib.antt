@@ -1,8 +1,7 @@
-pub mod Scan
 pub mod Units
 pub mod ClausesStand
 pub mod LiteralWords
-pub mod ScanLaws
+pub mod FalseWords
 pub mod UnitLaws
 pub mod TrailWords
 pub mod Stacks

@@ -4,14 +4,17 @@ use mathlib.Core.Path.{_≡_, refl, sym, _∙_, ap}
 use mathlib.Core.Bool.{true, false, not}
 use mathlib.Core.List.{List}
 use native.Mathlib.Omega.{arith}
+use lib.Dec.{eqb}
 use lib.ListN.{length}
-use Rattle.definitions.specs.Lists.{_∈_}
-use Rattle.theory.specs.Tests.{by-test}
-use Rattle.theory.specs.WordLaws.{literal-ext}
-use Rattle.definitions.specs.Words.{Atom, Literal, negate, plain, position}
+use borrow.Author.Tests.{eq-eqb, ne-eqb}
+use Rattle.definitions.specs.Lists.{_∈_, distinct}
+use Rattle.theory.specs.Tests.{by-test, true-and-false}
+use Rattle.theory.specs.DistinctLaws.{distinct-map}
+use Rattle.theory.specs.WordLaws.{literal-ext, sameLiteral-eq, eq-sameLiteral}
+use Rattle.definitions.specs.Words.{Atom, Literal, negate, plain, sameLiteral, Clause, position}
 use Rattle.theory.specs.TableLaws.{position-inside, position-injective}
 use Rattle.encoding.specs.Signs.{wordOf, wordOf-half}
-use Rattle.encoding.specs.Encoding.{literalWord}
+use Rattle.encoding.specs.Encoding.{literalWord, clauseWords}
 
 module _ (table : List Atom) where
   pub word-plain : (a : Atom) → literalWord table (plain a) ≡ 2 * position table a
@@ -32,7 +35,7 @@ module _ (table : List Atom) where
   word-negative l e = cc
 
   -- words of different literals differ
-  pub word-injective : (l m : Literal) → l .atom ∈ table → m .atom ∈ table → literalWord table l ≡ literalWord table m → l ≡ m
+  word-injective : (l m : Literal) → l .atom ∈ table → m .atom ∈ table → literalWord table l ≡ literalWord table m → l ≡ m
   word-injective l m j k e =
       by-test (l .positive)
       (λ p. by-test (m .positive)
@@ -61,3 +64,15 @@ module _ (table : List Atom) where
 
   pub word-next : (l : Literal) → l ≡ plain (l .atom) → literalWord table (negate l) ≡ literalWord table l + 1
   word-next l q = omega (arith, ap (λ (m : Literal). literalWord table (negate m)) q, ap (literalWord table) q, word-plain (l .atom), word-negated (l .atom))
+
+-- the words of the different literals are the different words
+pub words-distinct : (table : List Atom) (ls : Clause) → ((y : Literal) → y ∈ ls → y .atom ∈ table)
+    → distinct eqb (clauseWords table ls) ≡ clauseWords table (distinct sameLiteral ls)
+unfolding clauseWords
+words-distinct table ls atoms =
+    distinct-map (literalWord table) sameLiteral eqb ls
+    (λ x y m n. by-test (sameLiteral x y)
+    (λ e. eq-eqb (literalWord table x) (literalWord table y) (ap (literalWord table) (sameLiteral-eq x y e)) ∙ sym e)
+    (λ e. ne-eqb (literalWord table x) (literalWord table y)
+    (λ q. true-and-false (eq-sameLiteral x y (word-injective table x y (atoms x m) (atoms y n) q)) e)
+    ∙ sym e))

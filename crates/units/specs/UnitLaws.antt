@@ -14,21 +14,20 @@ use Rattle.definitions.specs.Words.{Atom, Literal, negate, sameAtom, Clause, go
 use Rattle.definitions.specs.Instances.{Task}
 use Rattle.definitions.specs.Search.{Trail, isTrue, isUnset, Logged, clauseOf, State, Act, conflict, force, notFalse, actOn, isGoal, goalAct, loggedAct, nextAct}
 use Rattle.theory.specs.Tests.{by-test, by-option, true-and-false}
+use Rattle.theory.specs.ListLaws.{in-along}
 use Rattle.theory.specs.DistinctLaws.{all-distinct}
 use Rattle.theory.specs.WordLaws.{sameAtom-eq, negate-atom, goal-of}
-use Rattle.theory.specs.SearchLaws.{Consistent, clause-head, isGoal-in, in-isGoal, mayLogged}
+use Rattle.theory.specs.SearchLaws.{Consistent, unset-of, notFalse-in, clause-head, isGoal-in, in-isGoal, mayLogged}
 use Rattle.theory.specs.TableLaws.{position-inside, position-append}
 use Rattle.encoding.specs.Encoding.{literalWord, clauseWords}
 use Rattle.theory.specs.PlaceLaws.{getElem-in}
 use Rattle.encoding.specs.Values.{Values, falseWord}
-use Rattle.units.specs.Scan.{look}
-use Rattle.units.specs.Units.{clauseAt, maySet, actAt, actFrom}
+use Rattle.units.specs.Units.{clauseAt, maySet, notFalseWords, actOnWords, actAt, actFrom}
 use Rattle.encoding.specs.Standing.{Valued}
+use Rattle.encoding.specs.WordTruths.{true-word}
 use Rattle.units.specs.LiteralWords.{word-near}
-use Rattle.units.specs.ScanLaws.{SeenAs, heads-false, seen-as, not-all}
+use Rattle.units.specs.FalseWords.{heads-false, not-all, not-false-words}
 use Rattle.units.specs.ClausesStand.{ClausesStand, actWord}
-use Rattle.units.specs.declared.Seen.{Seen}
-use Rattle.units.specs.declared.Seen.the-variants.{AllFalse, One, Open}
 use Rattle.units.specs.declared.UnitAct.the-variants.{Nothing}
 
 -- ── goal atoms and their words ──
@@ -65,14 +64,21 @@ module _ (table : List Atom) (t : Trail) (values : Values) (consistent : Consist
       → clauseAt starts literals n ≡ clauseWords table c
       → ((l : Literal) → l ∈ c → isUnset t l ≡ true → maySet values starts literals heads given goals n (literalWord table l) ≡ may l)
       → actAt values starts literals heads given goals n ≡ actWord table (actOn t may (notFalse t c))
-  unfolding actAt actOn actWord
-  act-of starts literals heads given goals n may c m e sets = cases (look values (clauseWords table c)) refl (seen-as table t values consistent valued c m)
+  unfolding actAt actOnWords actOn actWord isUnset clauseWords
+  act-of starts literals heads given goals n may c m e sets = cases (notFalse t c) refl
     where
-      cases : (seen : Seen) → look values (clauseWords table c) ≡ seen → SeenAs table t c seen
-          → actAt values starts literals heads given goals n ≡ actWord table (actOn t may (notFalse t c))
-      cases AllFalse q h = cc
-      cases (One w) q (l, k, h, u, v) = by-test (may l) (λ b. cc (sets l k u)) (λ b. cc (sets l k u))
-      cases Open q h = cc (h may)
+      left : notFalseWords values (clauseAt starts literals n) ≡ clauseWords table (notFalse t c)
+      left = ap (notFalseWords values) e ∙ not-false-words table t values consistent valued c m
+
+      cases : (ls : Clause) → notFalse t c ≡ ls → actAt values starts literals heads given goals n ≡ actWord table (actOn t may (notFalse t c))
+      cases [] q = cc left
+      cases (l ∷ []) q =
+          let (k, f) = notFalse-in t c l (in-along q (List·Memᴰ·head refl)) in
+          let true-here = true-word table t values valued consistent l (m l k) in
+          by-test (isTrue t l)
+          (λ p. cc (left, true-here))
+          (λ p. let allowed = sets l k (unset-of t l p f) in by-test (may l) (λ b. cc (left, true-here, allowed)) (λ b. cc (left, true-here, allowed)))
+      cases (l ∷ o ∷ ls) q = cc left
 
 -- the first act of the clauses from c on, and of those behind them
 module _ {A : Type 0} (values : Values) (starts literals heads : List ℕ) (given goals : ℕ) (table : List Atom) (f : A → Option Act) where

@@ -1,14 +1,12 @@
 -- Step A over clauses as words. Assumes nothing.
 use Prim.Native.Nat.{ℕ, zero, suc, _+_, _-_, _*_, _≤_, _<_}
 use mathlib.Core.Bool.{Bool, true, false, _&&_, _||_, not}
-use mathlib.Core.List.{List}
-use lib.Dec.{ltb}
+use mathlib.Core.List.{List, [], _∷_}
+use lib.Dec.{eqb, ltb}
 use lib.ListN.{getD, take, drop}
 use Rattle.encoding.specs.Lengths.{literalArray}
-use Rattle.definitions.specs.Lists.{all}
-use Rattle.encoding.specs.Values.{Values, falseWord}
-use Rattle.units.specs.Scan.{look}
-use Rattle.units.specs.declared.Seen.the-variants.{AllFalse, One, Open}
+use Rattle.definitions.specs.Lists.{all, filter, distinct}
+use Rattle.encoding.specs.Values.{Values, trueWord, falseWord}
 use Rattle.units.specs.declared.UnitAct.{UnitAct}
 use Rattle.units.specs.declared.UnitAct.the-variants.{Conflict, Force, Nothing}
 
@@ -22,14 +20,20 @@ maySet values starts literals heads goalClauses goals c w =
     ltb w (2 * goals)
     || (not (ltb c goalClauses) && all (falseWord values) (take (getD heads (c - goalClauses) 0) (drop (getD starts c 0) literals)))
 
+-- the different words that are not false
+unfoldable pub notFalseWords : Values → List ℕ → List ℕ
+notFalseWords values ws = filter (λ (w : ℕ). not (falseWord values w)) (distinct eqb ws)
+
+-- none: a conflict; exactly one, if it is not true and the clause may set it: it is set
+unfoldable pub actOnWords : Values → (ℕ → Bool) → List ℕ → UnitAct
+actOnWords values may [] = Conflict
+actOnWords values may (w ∷ []) = elim (not (trueWord values w) && may w) [ true ↦ Force w | false ↦ Nothing ]
+actOnWords values may (w ∷ v ∷ ws) = Nothing
+
 -- what clause c asks for
 unfoldable pub actAt : Values → List ℕ → List ℕ → List ℕ → ℕ → ℕ → ℕ → UnitAct
 actAt values starts literals heads goalClauses goals c =
-    elim (look values (clauseAt starts literals c)) [
-      | AllFalse ↦ Conflict
-      | One w ↦ elim (maySet values starts literals heads goalClauses goals c w) [ true ↦ Force w | false ↦ Nothing ]
-      | Open ↦ Nothing
-    ]
+    actOnWords values (maySet values starts literals heads goalClauses goals c) (notFalseWords values (clauseAt starts literals c))
 
 -- the first act of so many clauses, from clause c on
 unfoldable pub actFrom : Values → List ℕ → List ℕ → List ℕ → ℕ → ℕ → ℕ → ℕ → UnitAct

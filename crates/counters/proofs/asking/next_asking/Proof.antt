@@ -38,7 +38,7 @@ returns c =
     let read = c .before .before .word in
     let here = next-here _ _ _ _ (read .ensures .0) (c .before .before .before .before .before .loop .inv .2) (read .ensures .1) _ (c .before .if1 .taken) (c .low-zeros .ensures .0) in
     let inside = here .0 (omega arith) in
-    (omega arith, omega arith, here .1)
+    (omega arith, omega arith, here .1, λ l. here .2)
 
 add-i : tie.Need-add-i Inv-loop μ-loop
 add-i c = search needs
@@ -53,7 +53,7 @@ loop-again : tie.Need-loop-again Inv-loop μ-loop
 loop-again c = (omega arith, omega arith, none-here _ _ _ _ (c .before .word .ensures .0) (c .before .before .before .before .loop .inv .2) (omega arith))
 
 returns-2 : tie.Need-returns-2 Inv-loop μ-loop
-returns-2 c = c .before .loop .inv
+returns-2 c = let inv = c .before .loop .inv in (inv .0, inv .1, inv .2, λ l. absurd (omega arith))
 
 pub next-asking-spec : {M : Type 1} → statement M
 next-asking-spec =

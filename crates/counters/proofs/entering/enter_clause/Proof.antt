@@ -11,11 +11,11 @@ enter-words-requires c κs =
     let free = words-free _ _ (start .pre .2) (start .pre .4 .1) in
     (start .pre .0, start .pre .1, start .pre .2, free .0, start .pre .3, free .1)
 
-shl-low-bit : tie.Need-shl-low-bit
-shl-low-bit c = search needs
+shl-asking-bit : tie.Need-shl-asking-bit
+shl-asking-bit c = search needs
 
-low-bit-requires : tie.Need-low-bit-requires
-low-bit-requires c κs = search needs
+asking-bit-requires : tie.Need-asking-bit-requires
+asking-bit-requires c κs = search needs
 
 mul-counts : tie.Need-mul-counts
 mul-counts c = search needs
@@ -35,7 +35,7 @@ word-requires c κs = search needs
 add-asking : tie.Need-add-asking
 add-asking c =
     let start = c .before .before .before .before .before in
-    let room = ask-room _ _ (start .pre .2) (start .pre .4 .1) (c .word .ensures .0) (c .word .ensures .1) (c .before .before .low-bit .ensures .1) in
+    let room = ask-room _ _ (start .pre .2) (start .pre .4 .1) (c .word .ensures .0) (c .word .ensures .1) (c .before .before .asking-bit .ensures .1) in
     omega arith
 
 mul-asking : tie.Need-mul-asking
@@ -46,15 +46,15 @@ element-write-asking c = search needs
 
 returns : tie.Need-returns
 returns c = λ clause same its.
-    entered-as _ clause (c .before .before .before .before .before .pre .2) its (c .word .ensures .0) (c .before .before .low-bit .ensures .0) (c .before .before .before .enter-words .ensures) same
+    entered-as _ clause (c .before .before .before .before .before .pre .2) its (c .word .ensures .0) (c .before .before .asking-bit .ensures .0) (c .before .before .before .enter-words .ensures) same
 
 pub enter-clause-spec : {M : Type 1} → statement M
 enter-clause-spec =
     tie.close
     (tie.spec
     enter-words-requires
-    shl-low-bit
-    low-bit-requires
+    shl-asking-bit
+    asking-bit-requires
     mul-counts
     element-write-counts
     mul-word

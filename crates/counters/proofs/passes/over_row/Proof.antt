@@ -4,7 +4,7 @@ use mathlib.Core.Path.{_≡_, refl, _∙_}
 use native.Mathlib.Omega.{arith}
 use lib.Bits.{and-le-l}
 use Rattle.counters.specs.Kept.{Moved}
-use Rattle.counters.specs.Passes.{firstOf, pass-start, pass-fits, pass-turn}
+use Rattle.counters.specs.Passes.{firstOf, pass-start, pass-over, pass-fits, pass-turn}
 use borrow.Author.Needs.{needs}
 use Rattle.counters.proofs.passes.over_row.Statement.{statement}
 use Rattle.counters.proofs.passes.over_row.Tie as tie
@@ -36,11 +36,23 @@ element-copy-out-word c = search needs
 word-requires : tie.Need-word-requires Inv-loop μ-loop
 word-requires c κs = search needs
 
-over-word-requires : tie.Need-over-word-requires Inv-loop μ-loop
-over-word-requires c κs =
-    let read = c .before .word in
+add-k : tie.Need-add-k Inv-loop μ-loop
+add-k c = search needs
+
+loop-less : tie.Need-loop-less Inv-loop μ-loop
+loop-less c = search needs
+
+loop-again : tie.Need-loop-again Inv-loop μ-loop
+loop-again c =
     let inv = c .before .before .before .before .loop .inv .1 in
     let row = c .before .before .before .before .before in
+    (omega arith, pass-over _ _ _ (rw (row .wide .ensures .0) at (c .before .word .ensures .0)) (c .if1 .taken) inv)
+
+over-word-requires : tie.Need-over-word-requires Inv-loop μ-loop
+over-word-requires c κs =
+    let read = c .before .before .word in
+    let inv = c .before .before .before .before .before .loop .inv .1 in
+    let row = c .before .before .before .before .before .before in
     let start = row .before in
     (omega arith, read .ensures .1, inv .sizes .0 ∙ start .pre .2, pass-fits _ _ _ (omega arith) (start .pre .3) inv _ (rw (row .wide .ensures .0) at (read .ensures .0)) (start .pre .4))
 
@@ -59,17 +71,17 @@ mul-asking c = search needs
 element-write-asking : tie.Need-element-write-asking Inv-loop μ-loop
 element-write-asking c = search needs
 
-add-k : tie.Need-add-k Inv-loop μ-loop
-add-k c = search needs
+add-k-2 : tie.Need-add-k-2 Inv-loop μ-loop
+add-k-2 c = search needs
 
-loop-less : tie.Need-loop-less Inv-loop μ-loop
-loop-less c = search needs
+loop-less-2 : tie.Need-loop-less-2 Inv-loop μ-loop
+loop-less-2 c = search needs
 
-loop-again : tie.Need-loop-again Inv-loop μ-loop
-loop-again c =
-    let inv = c .before .before .before .before .before .before .loop .inv .1 in
-    let row = c .before .before .before .before .before .before .before in
-    (omega arith, pass-turn _ _ _ (omega arith) (row .before .pre .3) inv (rw (row .wide .ensures .0) at (c .before .before .before .word .ensures .0)) refl (c .before .over-word .ensures))
+loop-again-2 : tie.Need-loop-again-2 Inv-loop μ-loop
+loop-again-2 c =
+    let inv = c .before .before .before .before .before .before .before .loop .inv .1 in
+    let row = c .before .before .before .before .before .before .before .before in
+    (omega arith, pass-turn _ _ _ (omega arith) (row .before .pre .3) inv (rw (row .wide .ensures .0) at (c .before .before .before .before .word .ensures .0)) refl (c .before .over-word .ensures))
 
 returns : tie.Need-returns Inv-loop μ-loop
 returns c = let e : c .before .loop .k ≡ c .before .before .before .args .words = omega arith in rw e at (c .before .loop .inv .1)
@@ -87,13 +99,16 @@ over-row-spec =
     mul-word
     element-copy-out-word
     word-requires
+    add-k
+    loop-less
+    loop-again
     over-word-requires
     mul-a
     element-copy-out-a
     sub-asking
     mul-asking
     element-write-asking
-    add-k
-    loop-less
-    loop-again
+    add-k-2
+    loop-less-2
+    loop-again-2
     returns)

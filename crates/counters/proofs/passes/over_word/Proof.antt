@@ -64,8 +64,8 @@ shl-bit c =
     let facts = word-in _ (found .before .before .loop .inv) (found .before .loop-test .taken) (start .pre .0) (start .pre .2) (found .low-zeros .ensures .0) in
     omega arith
 
-low-bit-requires : tie.Need-low-bit-requires Inv-loop μ-loop
-low-bit-requires c κs = search needs
+asking-bit-requires : tie.Need-asking-bit-requires Inv-loop μ-loop
+asking-bit-requires c κs = search needs
 
 add-low : tie.Need-add-low Inv-loop μ-loop
 add-low c =
@@ -93,7 +93,7 @@ loop-again c =
     let found = c .before .before in
     let start = found .before .before .before in
     let fits = word-fits _ (found .before .before .loop .inv) (found .before .loop-test .taken) (start .pre .0) (start .pre .2) (found .low-zeros .ensures .0) (start .pre .3) in
-    rw (c .low-bit .ensures .0, word-in _ (found .before .before .loop .inv) (found .before .loop-test .taken) (start .pre .0) (start .pre .2) (found .low-zeros .ensures .0) .2)
+    rw (c .asking-bit .ensures .0, word-in _ (found .before .before .loop .inv) (found .before .loop-test .taken) (start .pre .0) (start .pre .2) (found .low-zeros .ensures .0) .2)
     (word-turn _ (found .before .before .loop .inv) (found .before .loop-test .taken) (start .pre .0) (start .pre .2) (found .low-zeros .ensures .0) _ (omega arith))
 
 returns : tie.Need-returns Inv-loop μ-loop
@@ -116,7 +116,7 @@ over-word-spec =
     mul-counts
     element-write-counts
     shl-bit
-    low-bit-requires
+    asking-bit-requires
     add-low
     sub-m
     loop-less

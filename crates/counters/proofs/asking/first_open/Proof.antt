@@ -1,28 +1,22 @@
--- `units::all_false` meets its contract. The words that are left are all false just where all words are. Assumes nothing.
-use Prim.Native.Nat.{_-_, _≤_}
-use mathlib.Core.Path.{_≡_}
+-- `asking::first_open` meets its contract. The place, with the false words that are still to come, stays the same. Assumes nothing.
+use Prim.Native.Nat.{_+_, _-_, _≤_}
+use mathlib.Core.Path.{_≡_, refl}
 use native.Mathlib.Omega.{arith}
 use lib.ListN.{take, drop}
-use Rattle.definitions.specs.Lists.{all}
-use Rattle.encoding.specs.Values.{falseWord}
-use Rattle.units.proofs.UnitTurns.{false-start, false-turn, false-hit, false-end}
-use Rattle.units.proofs.all_false.Statement.{statement}
-use Rattle.units.proofs.all_false.Tie as tie
+use Rattle.counters.specs.ByNumber.{firstOpen}
+use Rattle.counters.proofs.ClauseTurns.{place-turn, place-hit, place-end}
+use Rattle.counters.proofs.asking.first_open.Statement.{statement}
+use Rattle.counters.proofs.asking.first_open.Tie as tie
 
 abbrev Inv-loop : tie.InvT-loop
-Inv-loop values literals from count words end i₀ i =
-    (i ≤ end) × (all (falseWord values) (take (end - i) (drop i words)) ≡ all (falseWord values) (take count (drop from words)))
+Inv-loop values literals from end words i₀ i =
+    (i ≤ end) × (i + firstOpen values (take (end - i) (drop i words)) ≡ from + firstOpen values (take (end - from) (drop from words)))
 
 abbrev μ-loop : tie.MeasureT-loop
-μ-loop values literals from count words end i₀ i = end - i
-
-add-end : tie.Need-add-end Inv-loop μ-loop
-add-end c = omega arith
+μ-loop values literals from end words i₀ i = end - i
 
 loop-holds : tie.Need-loop-holds Inv-loop μ-loop
-loop-holds c =
-    let a = c .before .args in
-    (omega arith, false-start (a .values .now) (a .literals .now) (a .from) (a .count))
+loop-holds c = (omega arith, refl)
 
 mul-w : tie.Need-mul-w Inv-loop μ-loop
 mul-w c = omega arith
@@ -31,11 +25,11 @@ shared-slice-read-w : tie.Need-shared-slice-read-w Inv-loop μ-loop
 shared-slice-read-w c = omega arith
 
 is-false-requires : tie.Need-is-false-requires Inv-loop μ-loop
-is-false-requires c κs = c .before .before .before .before .pre .1 (c .before .before .loop .i) (c .before .loop-test .taken)
+is-false-requires c κs = c .before .before .before .before .pre .2 (c .before .before .loop .i) (c .before .loop-test .taken)
 
 returns : tie.Need-returns Inv-loop μ-loop
 returns c =
-    false-hit _ _ _ _
+    place-hit _ _ _ _
     (c .before .before .before .before .loop .inv .1)
     (c .before .before .before .loop-test .taken)
     (omega arith)
@@ -51,7 +45,7 @@ loop-less c = omega arith
 loop-again : tie.Need-loop-again Inv-loop μ-loop
 loop-again c = (
   omega arith,
-  false-turn _ _ _ _
+  place-turn _ _ _ _
       (c .before .before .before .before .loop .inv .1)
       (c .before .before .before .loop-test .taken)
       (omega arith)
@@ -60,15 +54,14 @@ loop-again c = (
 )
 
 returns-2 : tie.Need-returns-2 Inv-loop μ-loop
-returns-2 c = false-end _ _ _ _ (c .before .loop .inv .1) (c .loop-test .left)
+returns-2 c = place-end _ _ _ _ (c .before .loop .inv .1) (c .loop-test .left)
 
-pub all-false-spec : {M : Type 1} → statement M
-all-false-spec =
+pub first-open-spec : {M : Type 1} → statement M
+first-open-spec =
     tie.close
     (tie.spec
     Inv-loop
     μ-loop
-    add-end
     loop-holds
     mul-w
     shared-slice-read-w
