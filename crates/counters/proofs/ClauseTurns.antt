@@ -20,23 +20,23 @@ use Rattle.counters.specs.ByNumber.{firstOpen, maySetAt, zero-left, one-
 
 module _ (values : Values) (words : List ℕ) (end i : ℕ) {x : ℕ} (left : i + firstOpen values (take (end - i) (drop i words)) ≡ x) where
   module _ (less : i < end) (fits : end ≤ length words) {r : Bool} (value : r ≡ falseWord values (getD words i 0)) where
-    pub place-turn : not r ≡ false → i + 1 + firstOpen values (take (end - (i + 1)) (drop (i + 1) words)) ≡ x
+    pub open-turn : not r ≡ false → i + 1 + firstOpen values (take (end - (i + 1)) (drop (i + 1) words)) ≡ x
     unfolding firstOpen
-    place-turn n =
+    open-turn n =
         let e = sym value ∙ not-false r n in
         let h = rw (part-cons words end i less fits, firstOpen, e) at left in
         omega arith
 
-    pub place-hit : not r ≡ true → i ≡ x
+    pub open-hit : not r ≡ true → i ≡ x
     unfolding firstOpen
-    place-hit n =
+    open-hit n =
         let e = sym value ∙ not-true r n in
         let h = rw (part-cons words end i less fits, firstOpen, e) at left in
         omega arith
 
-  pub place-end : end ≤ i → i ≡ x
+  pub open-end : end ≤ i → i ≡ x
   unfolding firstOpen
-  place-end h = let e = rw (part-nil words end i h, firstOpen) at left in omega arith
+  open-end h = let e = rw (part-nil words end i h, firstOpen) at left in omega arith
 
 -- ── what it may set ──
 

@@ -18,9 +18,8 @@ use Rattle.units.specs.declared.UnitAct.{UnitAct}
 use Rattle.units.specs.declared.UnitAct.the-variants.{Nothing}
 use Rattle.counters.specs.Weights.{whole-is-once}
 use Rattle.counters.specs.ByNumber.{rests}
-use Rattle.counters.specs.Counters.{readWhole, numberAsks, countersOf, counters}
+use Rattle.counters.specs.Counters.{readWhole, numberAsks, countersOf, counters, askAt}
 use Rattle.counters.specs.CounterLaws.{counters-kept}
-use Rattle.counters.specs.Kept.{askAt}
 
 -- ── the next clause that asks ──
 

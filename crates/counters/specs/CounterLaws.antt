@@ -1,4 +1,4 @@
--- The arrays that `countersOf` names are those that hold place by place what `Kept` says, and no others. Assumes nothing.
+-- The arrays that `countersOf` names are those that hold place by place what `PlacesKept` says, and no others. Assumes nothing.
 use Prim.Native.Nat.{ℕ, zero, suc, _+_, _*_, _/_, _%_, _^_, _≤_, _<_}
 use mathlib.Core.Path.{_≡_, refl, sym, ap, _∙_}
 use mathlib.Core.Bool.{Bool, _&&_}
@@ -15,9 +15,9 @@ use Rattle.theory.specs.Tests.{by-test}
 use Rattle.bits.specs.Bits.{has, packed, has-packed, packed-below, packed-only}
 use Rattle.encoding.specs.CountLaws.{length-upFrom, by-order}
 use Rattle.encoding.specs.Values.{Values}
-use Rattle.counters.specs.Counters.{Counters, readWhole, numberAsks, rowBit, number, askBit, countersOf, counters}
+use Rattle.counters.specs.Counters.{Counters, readWhole, numberAsks, rowBit, number, askBit, countersOf, counters, rowAt, askAt}
 use Rattle.counters.specs.Weights.{once, weighs, whole-is-once}
-use Rattle.counters.specs.Kept.{rowAt, askAt, Kept, kept-same, kept-none}
+use Rattle.counters.specs.PlacesKept.{PlacesKept, kept-same, kept-none}
 
 -- ── an array given by its places ──
 
@@ -92,7 +92,7 @@ module _ (values : Values) (clause : ℕ → List ℕ) (clauses : ℕ) where
       (rw place at (has-words askBits 10 (c / 64) (c % 64) (omega arith) (omega arith))) ∙ rw (lt-ltb c clauses l)
 
   module _ {rows counts asking : List ℕ} where
-    pub kept-counters : Kept (weighs values) clause clauses rows counts asking → counters rows counts asking ≡ countersOf values clause clauses
+    pub kept-counters : PlacesKept (weighs values) clause clauses rows counts asking → counters rows counts asking ≡ countersOf values clause clauses
     unfolding countersOf rowAt askAt rowBit
     kept-counters k = rw (rowed, counted, its-asking)
       where
@@ -118,7 +118,7 @@ module _ (values : Values) (clause : ℕ → List ℕ) (clauses : ℕ) where
             let bit : (64 * i + j) % 64 ≡ j = omega arith in
             (rw (word, bit) at (k .asks (64 * i + j) (omega arith))) ∙ ask-number (64 * i + j) (numbered (64 * i + j) (omega arith)))
 
-    pub counters-kept : clauses ≤ 640 → counters rows counts asking ≡ countersOf values clause clauses → Kept (weighs values) clause clauses rows counts asking
+    pub counters-kept : clauses ≤ 640 → counters rows counts asking ≡ countersOf values clause clauses → PlacesKept (weighs values) clause clauses rows counts asking
     unfolding countersOf rowAt askAt rowBit
     counters-kept few e =
         let rowed : rows ≡ words rowBits 5120 = ap (λ (x : Counters). x .rows) e in

@@ -5,8 +5,8 @@ use mathlib.Core.Bool.{Bool, true, false, _&&_}
 use mathlib.Core.List.{List, map}
 use denote.Triple.Both.{Both}
 use lib.Dec.{eqb, leb, ltb}
-use lib.ListN.{length}
-use Rattle.bits.specs.Bits.{packed}
+use lib.ListN.{length, getD}
+use Rattle.bits.specs.Bits.{has, packed}
 use Rattle.definitions.specs.Lists.{any, filter, distinct, upFrom}
 use Rattle.theory.specs.ClauseNumbers.{Numbers}
 use Rattle.encoding.specs.Lent.{Array, Lent}
@@ -43,6 +43,13 @@ pub record Counters : Type 0 where
   pub counts : List ℕ
   -- bit `c % 64` of word `c / 64`: clause c asks
   pub asking : List ℕ
+
+-- whether clause c holds word w, and whether it asks
+unfoldable pub rowAt : List ℕ → ℕ → ℕ → Bool
+rowAt rows w c = has (c % 64) (getD rows (10 * w + c / 64) 0)
+
+unfoldable pub askAt : List ℕ → ℕ → Bool
+askAt asking c = has (c % 64) (getD asking (c / 64) 0)
 
 -- what they are for so many clauses: no other clause holds anything, counts or asks
 unfoldable pub rowBit : (ℕ → List ℕ) → ℕ → ℕ → ℕ → Bool

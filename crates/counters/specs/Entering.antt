@@ -17,9 +17,9 @@ use Rattle.encoding.specs.Lengths.{literalArray}
 use Rattle.encoding.specs.Values.{Values}
 use Rattle.units.specs.Units.{clauseAt, ClausesFit}
 use Rattle.counters.specs.Weights.{one-if, once, any-snoc, once-snoc, weighs}
-use Rattle.counters.specs.Counters.{numberAsks, countersOf, counters}
+use Rattle.counters.specs.Counters.{numberAsks, countersOf, counters, rowAt, askAt}
 use Rattle.counters.specs.CounterLaws.{kept-counters, counters-kept}
-use Rattle.counters.specs.Kept.{rowAt, askAt, Kept}
+use Rattle.counters.specs.PlacesKept.{PlacesKept}
 
 -- the words seen so far stand in the rows of clause c
 pub record Entering (f : ℕ → ℕ) (c n : ℕ) (seen rows₀ rows : List ℕ) : Type 0 where
@@ -108,7 +108,7 @@ module _ {f : ℕ → ℕ} {c n : ℕ} {seen rows₀ rows : List ℕ} (e : Enter
 
 -- ── the clause is counted ──
 
-module _ {f : ℕ → ℕ} {clause : ℕ → List ℕ} {c : ℕ} {rows counts asking : List ℕ} (k : Kept f clause c rows counts asking) (few : c < 640) where
+module _ {f : ℕ → ℕ} {clause : ℕ → List ℕ} {c : ℕ} {rows counts asking : List ℕ} (k : PlacesKept f clause c rows counts asking) (few : c < 640) where
   -- it has no bit yet
   row-free : (x : ℕ) → x < 512 → rowAt rows x c ≡ false
   row-free x l = k .held x c l few ∙ rw (le-ltb c c (omega arith))
@@ -164,7 +164,7 @@ module _ {f : ℕ → ℕ} {clause : ℕ → List ℕ} {c : ℕ} {rows counts as
         (λ b. let l = ltb-true d c b in lt-ltb d (c + 1) (omega arith) ∙ sym b)
         (λ b. let l = ltb-false d c b in le-ltb d (c + 1) (omega (arith, far)) ∙ sym b)
 
-    kept-entered : Kept f clause (c + 1) rows′ (set counts c n) (set asking (c / 64) next)
+    kept-entered : PlacesKept f clause (c + 1) rows′ (set counts c n) (set asking (c / 64) next)
     kept-entered = record {
       few = omega arith;
       sizes = (length-set counts c n ∙ k .sizes .0, length-set asking (c / 64) next ∙ k .sizes .1, e .size ∙ k .sizes .2);
@@ -218,7 +218,7 @@ module _ {f : ℕ → ℕ} {c n : ℕ} {rows₀ rows : List ℕ} (ls : List ℕ)
 -- a clause is entered behind c others
 module _ (values : Values) (clause : ℕ → List ℕ) {c : ℕ} {rows counts asking : List ℕ} (few : c < 640)
     (its : counters rows counts asking ≡ countersOf values clause c) where
-  abbrev kept : Kept (weighs values) clause c rows counts asking
+  abbrev kept : PlacesKept (weighs values) clause c rows counts asking
   kept = counters-kept values clause c (omega arith) its
 
   pub words-free : (length rows ≡ 5120) × ((x : ℕ) → x < 512 → rowAt rows x c ≡ false)

@@ -2,7 +2,7 @@ pub mod Counters
 pub mod Weights
 pub mod ByNumber
 pub mod SetPasses
-pub mod Kept
+pub mod PlacesKept
 pub mod CounterLaws
 pub mod Passes
 pub mod Setting

@@ -14,9 +14,9 @@ use lib.Seq.{getD-set-same, getD-set-other}
 use borrow.Author.Tests.{eqb-true, eqb-false, eq-eqb, ne-eqb, ltb-true, ltb-false, lt-ltb, le-ltb, le-leb, lt-leb}
 use Rattle.theory.specs.Tests.{by-test, and-left, and-right}
 use Rattle.bits.specs.Bits.{has, has-zero, lowest, has-lowest, has-less, has-or, has-taken, has-put, put-below, one-shifted}
-use Rattle.counters.specs.Counters.{numberAsks}
+use Rattle.counters.specs.Counters.{numberAsks, rowAt, askAt}
 use Rattle.counters.specs.Weights.{one-if}
-use Rattle.counters.specs.Kept.{rowAt, askAt, pick, Moved}
+use Rattle.counters.specs.PlacesKept.{pick, Moved}
 
 -- ── what the passes ask for ──
 

@@ -16,8 +16,8 @@ use Rattle.encoding.specs.ValueLaws.{even-sign, odd-sign, assigned-even, assign
 use Rattle.units.specs.Units.{clauseAt, ClausesFit}
 use Rattle.counters.specs.Weights.{weighs, weighs-small, once-holds, once-bound, WeightStep, step-back}
 use Rattle.counters.specs.SetPasses.{halfway, halfway-small, other-small, SetsLiteral, first-pass, second-pass}
-use Rattle.counters.specs.Kept.{rowAt, Kept, Moved, kept-moved}
-use Rattle.counters.specs.Counters.{Counters, countersOf, counters}
+use Rattle.counters.specs.PlacesKept.{PlacesKept, Moved, kept-moved}
+use Rattle.counters.specs.Counters.{Counters, countersOf, counters, rowAt}
 use Rattle.counters.specs.CounterLaws.{kept-counters, counters-kept}
 use Rattle.counters.specs.Passes.{RowFits, firstOf, pass-end}
 
@@ -64,7 +64,7 @@ record Passable (f g : ℕ → ℕ) (x up down : ℕ) : Type 0 where
 
 -- what a pass asks for
 row-needs : {f g : ℕ → ℕ} {x up down words clauses : ℕ} {clause : ℕ → List ℕ} {rows counts asking : List ℕ} → words ≤ 10 → Passable f g x up down
-    → ((c : ℕ) → c < clauses → length (clause c) ≤ literalArray) → Kept f clause clauses rows counts asking → RowFits x words up down rows counts asking
+    → ((c : ℕ) → c < clauses → length (clause c) ≤ literalArray) → PlacesKept f clause clauses rows counts asking → RowFits x words up down rows counts asking
 row-needs {f = f} {x = x} {up = up} {down = down} {clauses = clauses} {clause = clause} {rows = rows} {counts = counts} few p short k =
     (p .word, few, k .sizes .0, k .sizes .1, fits)
   where
@@ -83,7 +83,7 @@ row-needs {f = f} {x = x} {up = up} {down = down} {clauses = clauses} {clause = 
 
 -- what a pass gives
 passed : (words : ℕ) {f g : ℕ → ℕ} {x up down clauses : ℕ} {clause : ℕ → List ℕ} {rows counts asking counts′ asking′ : List ℕ}
-    → Passable f g x up down → clauses ≤ 64 * words → Moved (firstOf rows x words) up down counts asking counts′ asking′ → Kept f clause clauses rows counts asking → Kept g clause clauses rows counts′ asking′
+    → Passable f g x up down → clauses ≤ 64 * words → Moved (firstOf rows x words) up down counts asking counts′ asking′ → PlacesKept f clause clauses rows counts asking → PlacesKept g clause clauses rows counts′ asking′
 passed words {x = x} {clauses = clauses} {clause = clause} {rows = rows} p l m k =
     kept-moved (p .step) (p .word) k
     (pass-end rows x words (λ c w h. k .held x c (p .word) w ∙ rw (le-ltb c clauses (omega arith))) m)
@@ -150,7 +150,7 @@ sets-set {values} {w} u = record { unset = unassigned-here values (w / 2) (u .in
 module _ (before after : Values) {words : ℕ} {f : ℕ → ℕ} {x y up down up′ down′ : ℕ} (few : words ≤ 10)
     (p : Passable (weighs before) f x up down) (q : Passable f (weighs after) y up′ down′)
     {rows counts asking : List ℕ} where
-  kept-at : (k : CountersFit before words (counters rows counts asking)) → Kept (weighs before) (k .clause) (k .clauses) rows counts asking
+  kept-at : (k : CountersFit before words (counters rows counts asking)) → PlacesKept (weighs before) (k .clause) (k .clauses) rows counts asking
   kept-at k = counters-kept before (k .clause) (k .clauses) (omega (arith, k .covered)) (k .its)
 
   first-needs : CountersFit before words (counters rows counts asking) → RowFits x words up down rows counts asking

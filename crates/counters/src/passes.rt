@@ -4,7 +4,7 @@ ghost use Prim.Native.Nat.{_+_, _-_, _*_, _^_, _≤_, _<_};
 ghost use lib.ListN.{length};
 ghost use Rattle.counters.specs.Counters.{numberAsks};
 ghost use Rattle.counters.specs.Weights.{one-if};
-ghost use Rattle.counters.specs.Kept.{Moved};
+ghost use Rattle.counters.specs.PlacesKept.{Moved};
 ghost use Rattle.counters.specs.Passes.{WordFits, RowFits, WordMoved, firstOf};
 use crate::PLACES;
 use crate::ROWS;

@@ -22,7 +22,7 @@ use Rattle.theory.specs.WordLaws.{sameLiteral-eq}
 use Rattle.theory.specs.SearchLaws.{Consistent}
 use Rattle.theory.specs.Unknown.{consistent}
 use Rattle.theory.specs.Limits.{Searchable}
-use Rattle.theory.specs.ClauseNumbers.{numbersOf, mayAct, nextActAmong, clausesOf, asking-enough, clauses-short}
+use Rattle.theory.specs.ClauseNumbers.{clauseNumbers, mayAct, nextActAmong, clausesOf, asking-enough, clauses-short}
 use Rattle.encoding.specs.CountLaws.{length-upFrom}
 use Rattle.encoding.specs.Encoding.{literalWord, clauseWords}
 use Rattle.encoding.specs.Standing.{Valued}
@@ -31,8 +31,7 @@ use Rattle.encoding.specs.Values.{Values, trueWord}
 use Rattle.encoding.specs.declared.Sizes.{Sizes}
 use Rattle.units.specs.Units.{clauseAt}
 use Rattle.units.specs.FalseWords.{words-left, not-false-words}
-use Rattle.counters.specs.Counters.{countNotFalse, countTrue, readWhole, told, numberAsks, number, Counters, countersOf}
-use Rattle.counters.specs.Kept.{askAt}
+use Rattle.counters.specs.Counters.{countNotFalse, countTrue, readWhole, told, numberAsks, number, Counters, countersOf, askAt}
 use Rattle.counters.specs.CounterLaws.{ask-inside}
 use Rattle.machine.specs.Machine.{Machine, StandsWith, NextStands, Loaded}
 use Rattle.machine.specs.MachineSteps.{machineRun, runAfter}
@@ -69,8 +68,8 @@ module _ (table : List Atom) (t : Trail) (values : Values) (consistent : Consist
       let left = filter (λ (l : Literal). not (isFalse t l)) c in
       omega (arith, distinct-length sameLiteral left, filter-length (λ (l : Literal). not (isFalse t l)) c)
 
-  words-told : length c < 256 → told (readWhole values (clauseWords table c)) ≡ numbersOf t c
-  unfolding told readWhole numbersOf
+  words-told : length c < 256 → told (readWhole values (clauseWords table c)) ≡ clauseNumbers t c
+  unfolding told readWhole clauseNumbers
   words-told short =
       let n = countNotFalse values (clauseWords table c) in
       let k = countTrue values (clauseWords table c) in
@@ -98,9 +97,9 @@ number-here values clause clauses c l = rw (lt-ltb c clauses l, number)
 -- what the counters of a state say: the kept numbers are those found by reading each clause whole, each clause asks by them, and step A makes
 -- its choice over the clauses that ask
 pub record NumbersStand (p : Problem) (s : State) (k : Counters) : Type 0 where
-  pub numbers : map told (take (length (clausesOf (p .clauses) s)) (k .counts)) ≡ map (numbersOf (s .trail)) (clausesOf (p .clauses) s)
-  pub asking : map (askAt (k .asking)) (upFrom 0 (length (clausesOf (p .clauses) s))) ≡ map (λ (c : Clause). mayAct (numbersOf (s .trail) c)) (clausesOf (p .clauses) s)
-  pub choice : nextActAmong (λ (c : Clause). mayAct (numbersOf (s .trail) c)) (taskOf p) s ≡ nextAct (taskOf p) s
+  pub numbers : map told (take (length (clausesOf (p .clauses) s)) (k .counts)) ≡ map (clauseNumbers (s .trail)) (clausesOf (p .clauses) s)
+  pub asking : map (askAt (k .asking)) (upFrom 0 (length (clausesOf (p .clauses) s))) ≡ map (λ (c : Clause). mayAct (clauseNumbers (s .trail) c)) (clausesOf (p .clauses) s)
+  pub choice : nextActAmong (λ (c : Clause). mayAct (clauseNumbers (s .trail) c)) (taskOf p) s ≡ nextAct (taskOf p) s
 
 -- a number asks by what it says
 asks-told : (n : ℕ) → numberAsks n ≡ mayAct (told n)
@@ -143,25 +142,25 @@ module _ {Counts : Type 0} (p : Problem) (limits : Searchable p) (s : State) (m 
       ∙ sym (map-map f clauseOf (s .log)))
       ∙ sym (map-append f (p .clauses) (map clauseOf (s .log)))
 
-  clause-told : (i : ℕ) (c : Clause) → c ∈ all → words i ≡ clauseWords (s .table) c → told (readWhole (m .trail .values) (words i)) ≡ numbersOf (s .trail) c
+  clause-told : (i : ℕ) (c : Clause) → c ∈ all → words i ≡ clauseWords (s .table) c → told (readWhole (m .trail .values) (words i)) ≡ clauseNumbers (s .trail) c
   clause-told i c its same =
       let (short, inside) = clauses-short p limits s (h .sound) c its in
       ap (λ (ws : List ℕ). told (readWhole (m .trail .values) ws)) same
       ∙ words-told (s .table) (s .trail) (m .trail .values) trail-consistent (h .trail .valued) c inside (omega arith)
 
-  numbers-told : map told (take (length all) (countersIn m r .counts)) ≡ map (numbersOf (s .trail)) all
+  numbers-told : map told (take (length all) (countersIn m r .counts)) ≡ map (clauseNumbers (s .trail)) all
   unfolding countersOf
   numbers-told =
       let kept : ℕ → ℕ = number (m .trail .values) words (r .clauses) in
       ap (λ (n : ℕ). map told (take n (countersIn m r .counts))) its-count
       ∙ ap (map told) (first-of kept (r .clauses) 640 few)
       ∙ map-map told kept (upFrom 0 (r .clauses))
-      ∙ each-clause (λ (i : ℕ). told (kept i)) (numbersOf (s .trail)) (λ i c below its same. ap told (number-here (m .trail .values) words (r .clauses) i below) ∙ clause-told i c its same)
+      ∙ each-clause (λ (i : ℕ). told (kept i)) (clauseNumbers (s .trail)) (λ i c below its same. ap told (number-here (m .trail .values) words (r .clauses) i below) ∙ clause-told i c its same)
 
-  asking-told : map (askAt (countersIn m r .asking)) (upFrom 0 (length all)) ≡ map (λ (c : Clause). mayAct (numbersOf (s .trail) c)) all
+  asking-told : map (askAt (countersIn m r .asking)) (upFrom 0 (length all)) ≡ map (λ (c : Clause). mayAct (clauseNumbers (s .trail) c)) all
   asking-told =
       ap (λ (n : ℕ). map (askAt (countersIn m r .asking)) (upFrom 0 n)) its-count
-      ∙ each-clause (askAt (countersIn m r .asking)) (λ (c : Clause). mayAct (numbersOf (s .trail) c))
+      ∙ each-clause (askAt (countersIn m r .asking)) (λ (c : Clause). mayAct (clauseNumbers (s .trail) c))
       (λ i c below its same. ask-inside (m .trail .values) words (r .clauses) few i below ∙ asks-told (readWhole (m .trail .values) (words i)) ∙ ap mayAct (clause-told i c its same))
 
   pub numbers-stand : NumbersStand p s (countersIn m r)

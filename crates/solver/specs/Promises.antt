@@ -34,7 +34,7 @@ use Rattle.theory.specs.CallLaws.{call-comes, answer-from-search, its-search}
 use Rattle.theory.specs.TruthLaws.{search-tells-apart}
 use Rattle.theory.specs.TwoWayLaws.{equivalence-rules, rules-equivalence, lines-rules}
 use Rattle.theory.specs.Limits.{accepted-from-lines}
-use Rattle.theory.specs.ClauseNumbers.{numbersOf, mayAct, nextActAmong, clausesOf}
+use Rattle.theory.specs.ClauseNumbers.{clauseNumbers, mayAct, nextActAmong, clausesOf}
 use Rattle.theory.specs.Demand3.{never-satisfied, never-unknown}
 use Rattle.theory.specs.Connected.{connected-heads, head-apart}
 use Rattle.theory.specs.BlankColumns.{nothing-blank, passed-over, blank-line, same-reading, same-accepted, same-results, same-keeps}
@@ -51,8 +51,7 @@ use Rattle.encoding.specs.declared.Sizes.{Sizes}
 use Rattle.machine.specs.Machine.{Machine, Loaded}
 use Rattle.machine.specs.Loading.{accepted-arrays}
 use Rattle.machine.specs.RunStands.{valuesAfter, run-words}
-use Rattle.counters.specs.Counters.{told}
-use Rattle.counters.specs.Kept.{askAt}
+use Rattle.counters.specs.Counters.{told, askAt}
 use Rattle.machine.specs.CountsStand.{countersAfter, run-numbers}
 use Rattle.cnf_reader.specs.CnfArrays.{cnfRead, heldClauses}
 use Rattle.cnf_reader.specs.CnfArrayLaws.{cnf-held}
@@ -289,15 +288,15 @@ module _ (p : Problem) (sizes : Sizes) (rules : List ℕ) (m : Machine) (loaded 
   clauses = clausesOf (p .clauses) (reached p budget steps)
 
   -- the kept numbers are those found by reading each clause whole,
-  pub request-8 : map told (take (length clauses) (countersAfter rules sizes budget steps m .counts)) ≡ map (numbersOf (reached p budget steps .trail)) clauses
+  pub request-8 : map told (take (length clauses) (countersAfter rules sizes budget steps m .counts)) ≡ map (clauseNumbers (reached p budget steps .trail)) clauses
   request-8 = run-numbers p sizes rules m loaded budget steps .numbers
 
   -- the bits of the clauses that ask say which have no true literal and at most one that is not false,
   pub request-8-asking : map (askAt (countersAfter rules sizes budget steps m .asking)) (upFrom 0 (length clauses))
-      ≡ map (λ (c : Clause). mayAct (numbersOf (reached p budget steps .trail) c)) clauses
+      ≡ map (λ (c : Clause). mayAct (clauseNumbers (reached p budget steps .trail) c)) clauses
   request-8-asking = run-numbers p sizes rules m loaded budget steps .asking
 
   -- and among these alone the unit step's choice is the one that it makes among all.
-  pub request-8-choice : nextActAmong (λ (c : Clause). mayAct (numbersOf (reached p budget steps .trail) c)) (taskOf p) (reached p budget steps)
+  pub request-8-choice : nextActAmong (λ (c : Clause). mayAct (clauseNumbers (reached p budget steps .trail) c)) (taskOf p) (reached p budget steps)
       ≡ nextAct (taskOf p) (reached p budget steps)
   request-8-choice = run-numbers p sizes rules m loaded budget steps .choice

@@ -8,10 +8,10 @@ use mathlib.Core.List.{List, [], _∷_, _++_, map, List·Memᴰ·not-nil, List·
 use native.Mathlib.Omega.{arith}
 use lib.Dec.{leb}
 use lib.ListN.{length}
-use Rattle.definitions.specs.Lists.{_∈_, any, filter, firstSome}
-use Rattle.definitions.specs.Words.{Literal, Clause, Problem}
+use Rattle.definitions.specs.Lists.{_∈_, any, filter, firstSome, Lists·all}
+use Rattle.definitions.specs.Words.{Literal, negate, plain, Clause, Problem, Words·all}
 use Rattle.definitions.specs.Instances.{Task, taskOf}
-use Rattle.definitions.specs.Search.{Trail, isTrue, isFalse, isUnset, Logged, clauseOf, State, Act, notFalse, actOn, goalAct, loggedAct, nextAct}
+use Rattle.definitions.specs.Search.{decided, Trail, isTrue, isFalse, isUnset, Logged, clauseOf, State, Act, notFalse, actOn, goalAct, loggedAct, nextAct, Search·all}
 use Rattle.theory.specs.Tests.{by-test, by-option, apart}
 use Rattle.theory.specs.ListLaws.{any-some, firstSome-filter, Each, each-append}
 use Rattle.theory.specs.WordLaws.{goal-of}
@@ -28,8 +28,21 @@ pub record Numbers : Type 0 where
   pub anyTrue : Bool
 
 -- found by reading the clause whole
-unfoldable pub numbersOf : Trail → Clause → Numbers
-numbersOf t c = record { nonFalse = length (notFalse t c); anyTrue = any (isTrue t) c }
+unfoldable pub clauseNumbers : Trail → Clause → Numbers
+clauseNumbers t c = record { nonFalse = length (notFalse t c); anyTrue = any (isTrue t) c }
+
+-- a repeated literal counts once; p and not p are two that are not false, and one once p is set, which is true
+module _ where
+  p : Literal
+  p = plain (record { symbol = 1; args = [] })
+
+  counted : map (clauseNumbers []) ((p ∷ p ∷ []) ∷ (p ∷ negate p ∷ []) ∷ []) ≡ record { nonFalse = 1; anyTrue = false } ∷ record { nonFalse = 2; anyTrue = false } ∷ []
+  unfolding p clauseNumbers Lists·all Words·all Search·all
+  counted = refl
+
+  counted-set : clauseNumbers (record { literal = p; why = decided } ∷ []) (p ∷ negate p ∷ []) ≡ record { nonFalse = 1; anyTrue = true }
+  unfolding p clauseNumbers Lists·all Words·all Search·all
+  counted-set = refl
 
 -- none is true, and at most one is not false
 unfoldable pub mayAct : Numbers → Bool
@@ -57,8 +70,8 @@ module _ (t : Trail) (consistent : Consistent t) where
       let (l, m, q) = any-some (isTrue t) c h in
       (l, q, notFalse-of t c l m (by-test (isFalse t l) (λ f. absurd (consistent l q f)) (λ f. f)))
 
-  quiet : (may : Literal → Bool) (c : Clause) → mayAct (numbersOf t c) ≡ false → actOn t may (notFalse t c) ≡ none
-  unfolding mayAct numbersOf actOn isUnset
+  quiet : (may : Literal → Bool) (c : Clause) → mayAct (clauseNumbers t c) ≡ false → actOn t may (notFalse t c) ≡ none
+  unfolding mayAct clauseNumbers actOn isUnset
   quiet may c h = cases (notFalse t c) refl
     where
       some-true : leb (length (notFalse t c)) 1 ≡ true → any (isTrue t) c ≡ true
@@ -73,10 +86,10 @@ module _ (t : Trail) (consistent : Consistent t) where
           cc
       cases (x ∷ y ∷ ls) e = refl
 
-pub asking-enough : (k : Task) (s : State) → Consistent (s .trail) → nextActAmong (λ (c : Clause). mayAct (numbersOf (s .trail) c)) k s ≡ nextAct k s
+pub asking-enough : (k : Task) (s : State) → Consistent (s .trail) → nextActAmong (λ (c : Clause). mayAct (clauseNumbers (s .trail) c)) k s ≡ nextAct k s
 unfolding nextActAmong nextAct goalAct loggedAct
 asking-enough k s consistent =
-    let asks : Clause → Bool = λ c. mayAct (numbersOf (s .trail) c) in
+    let asks : Clause → Bool = λ c. mayAct (clauseNumbers (s .trail) c) in
     let goals : firstSome (goalAct k (s .trail)) (filter asks (k .clauses)) ≡ firstSome (goalAct k (s .trail)) (k .clauses)
     = firstSome-filter (goalAct k (s .trail)) asks (k .clauses) (λ c m h. quiet (s .trail) consistent _ c h) in
     let logged : firstSome (loggedAct k (s .trail)) (filter (λ (g : Logged). asks (clauseOf g)) (s .log)) ≡ firstSome (loggedAct k (s .trail)) (s .log)

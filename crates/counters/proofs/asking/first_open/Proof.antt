@@ -4,7 +4,7 @@ use mathlib.Core.Path.{_≡_, refl}
 use native.Mathlib.Omega.{arith}
 use lib.ListN.{take, drop}
 use Rattle.counters.specs.ByNumber.{firstOpen}
-use Rattle.counters.proofs.ClauseTurns.{place-turn, place-hit, place-end}
+use Rattle.counters.proofs.ClauseTurns.{open-turn, open-hit, open-end}
 use Rattle.counters.proofs.asking.first_open.Statement.{statement}
 use Rattle.counters.proofs.asking.first_open.Tie as tie
 
@@ -29,7 +29,7 @@ is-false-requires c κs = c .before .before .before .before .pre .2 (c .before .
 
 returns : tie.Need-returns Inv-loop μ-loop
 returns c =
-    place-hit _ _ _ _
+    open-hit _ _ _ _
     (c .before .before .before .before .loop .inv .1)
     (c .before .before .before .loop-test .taken)
     (omega arith)
@@ -45,7 +45,7 @@ loop-less c = omega arith
 loop-again : tie.Need-loop-again Inv-loop μ-loop
 loop-again c = (
   omega arith,
-  place-turn _ _ _ _
+  open-turn _ _ _ _
       (c .before .before .before .before .loop .inv .1)
       (c .before .before .before .loop-test .taken)
       (omega arith)
@@ -54,7 +54,7 @@ loop-again c = (
 )
 
 returns-2 : tie.Need-returns-2 Inv-loop μ-loop
-returns-2 c = place-end _ _ _ _ (c .before .loop .inv .1) (c .loop-test .left)
+returns-2 c = open-end _ _ _ _ (c .before .loop .inv .1) (c .loop-test .left)
 
 pub first-open-spec : {M : Type 1} → statement M
 first-open-spec =

@@ -4,7 +4,7 @@ use mathlib.Core.Path.{_≡_}
 use mathlib.Core.Bool.{true}
 use native.Mathlib.Omega.{arith}
 use Rattle.units.specs.Units.{actFrom}
-use Rattle.counters.specs.Kept.{askAt}
+use Rattle.counters.specs.Counters.{askAt}
 use Rattle.counters.specs.Asking.{its-number, asks-few, ask-next}
 use Rattle.counters.proofs.ActTurns.{fit-first, act-start, act-turn, act-hit, act-hit-force, act-end}
 use borrow.Author.Needs.{needs}

@@ -3,7 +3,7 @@ use Prim.Native.Nat.{_-_, _≤_}
 use mathlib.Core.Path.{_≡_, refl, _∙_}
 use native.Mathlib.Omega.{arith}
 use lib.Bits.{and-le-l}
-use Rattle.counters.specs.Kept.{Moved}
+use Rattle.counters.specs.PlacesKept.{Moved}
 use Rattle.counters.specs.Passes.{firstOf, pass-start, pass-over, pass-fits, pass-turn}
 use borrow.Author.Needs.{needs}
 use Rattle.counters.proofs.passes.over_row.Statement.{statement}

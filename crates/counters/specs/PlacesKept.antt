@@ -13,18 +13,11 @@ use Rattle.definitions.specs.Lists.{any}
 use Rattle.theory.specs.Tests.{by-test, and-left}
 use Rattle.bits.specs.Bits.{has, has-zero}
 use Rattle.encoding.specs.ArrayLaws.{getD-repeated}
-use Rattle.counters.specs.Counters.{numberAsks}
+use Rattle.counters.specs.Counters.{numberAsks, rowAt, askAt}
 use Rattle.counters.specs.Weights.{one-if, once, WeightStep, step-sum}
 
--- clause c's bit: in the ten words of literal x, and in the ten words of those that ask
-unfoldable pub rowAt : List ℕ → ℕ → ℕ → Bool
-rowAt rows x c = has (c % 64) (getD rows (10 * x + c / 64) 0)
-
-unfoldable pub askAt : List ℕ → ℕ → Bool
-askAt asking c = has (c % 64) (getD asking (c / 64) 0)
-
 -- a clause's number is its weight; behind the clauses all is 0
-pub record Kept (f : ℕ → ℕ) (clause : ℕ → List ℕ) (clauses : ℕ) (rows counts asking : List ℕ) : Type 0 where
+pub record PlacesKept (f : ℕ → ℕ) (clause : ℕ → List ℕ) (clauses : ℕ) (rows counts asking : List ℕ) : Type 0 where
   pub few : clauses ≤ 640
   pub sizes : (length counts ≡ 640) × (length asking ≡ 10) × (length rows ≡ 5120)
   pub below : ((i : ℕ) → getD rows i 0 < 2 ^ 64) × ((i : ℕ) → getD asking i 0 < 2 ^ 64)
@@ -46,8 +39,8 @@ pub record Moved (row : ℕ → Bool) (up down : ℕ) (counts asking counts′ a
 
 module _ {f g : ℕ → ℕ} {x up down : ℕ} {clause : ℕ → List ℕ} {clauses : ℕ} {rows counts asking counts′ asking′ : List ℕ} where
   -- over the clauses that hold the word whose weight changes
-  pub kept-moved : WeightStep f g x up down → x < 512 → Kept f clause clauses rows counts asking → Moved (rowAt rows x) up down counts asking counts′ asking′
-      → Kept g clause clauses rows counts′ asking′
+  pub kept-moved : WeightStep f g x up down → x < 512 → PlacesKept f clause clauses rows counts asking → Moved (rowAt rows x) up down counts asking counts′ asking′
+      → PlacesKept g clause clauses rows counts′ asking′
   unfolding one-if pick
   kept-moved s small k m = record {
     few = k .few;
@@ -81,7 +74,7 @@ module _ {f g : ℕ → ℕ} {x up down : ℕ} {clause : ℕ → List ℕ} {clau
 
 -- words behind the clauses don't matter
 pub kept-same : {f : ℕ → ℕ} {clause clause′ : ℕ → List ℕ} {clauses : ℕ} {rows counts asking : List ℕ} → ((c : ℕ) → c < clauses → clause c ≡ clause′ c)
-    → Kept f clause clauses rows counts asking → Kept f clause′ clauses rows counts asking
+    → PlacesKept f clause clauses rows counts asking → PlacesKept f clause′ clauses rows counts asking
 kept-same {f = f} {clauses = clauses} h k = record {
   few = k .few;
   sizes = k .sizes;
@@ -93,7 +86,7 @@ kept-same {f = f} {clauses = clauses} h k = record {
 }
 
 -- with no clauses the arrays are all 0
-pub kept-none : (f : ℕ → ℕ) (clause : ℕ → List ℕ) → Kept f clause 0 (replicate {A = ℕ} 5120 0) (replicate {A = ℕ} 640 0) (replicate {A = ℕ} 10 0)
+pub kept-none : (f : ℕ → ℕ) (clause : ℕ → List ℕ) → PlacesKept f clause 0 (replicate {A = ℕ} 5120 0) (replicate {A = ℕ} 640 0) (replicate {A = ℕ} 10 0)
 unfolding rowAt askAt
 kept-none f clause = record {
   few = omega arith;
