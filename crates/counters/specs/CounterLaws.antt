@@ -1,5 +1,5 @@
 -- The arrays that `countersOf` names are those that hold place by place what `PlacesKept` says, and no others. Assumes nothing.
-use Prim.Native.Nat.{ℕ, zero, suc, _+_, _*_, _/_, _%_, _^_, _≤_, _<_}
+use Prim.Native.Nat.{ℕ, _+_, _*_, _/_, _%_, _^_, _≤_, _<_}
 use mathlib.Core.Path.{_≡_, refl, sym, ap, _∙_}
 use mathlib.Core.Bool.{Bool, _&&_}
 use mathlib.Core.List.{List, map}
@@ -12,6 +12,7 @@ use lib.Seq.{ext-getD}
 use borrow.Author.Tests.{lt-ltb, le-ltb}
 use Rattle.definitions.specs.Lists.{upFrom}
 use Rattle.theory.specs.Tests.{by-test}
+use Rattle.theory.specs.PlaceLaws.{getD-places}
 use Rattle.bits.specs.Bits.{has, packed, has-packed, packed-below, packed-only}
 use Rattle.encoding.specs.CountLaws.{length-upFrom, by-order}
 use Rattle.encoding.specs.Values.{Values}
@@ -22,14 +23,8 @@ use Rattle.counters.specs.PlacesKept.{PlacesKept, kept-same, kept-none}
 -- ── an array given by its places ──
 
 module _ (g : ℕ → ℕ) where
-  getD-from : (a n i : ℕ) → i < n → getD (map g (upFrom a n)) i 0 ≡ g (a + i)
-  unfolding upFrom
-  getD-from a zero i l = absurd (omega arith)
-  getD-from a (suc n) zero l = let e : a + 0 ≡ a = omega arith in rw e
-  getD-from a (suc n) (suc i) l = let e : suc a + i ≡ a + suc i = omega arith in getD-from (suc a) n i (omega arith) ∙ rw e
-
-  getD-places : (n i : ℕ) → i < n → getD (map g (upFrom 0 n)) i 0 ≡ g i
-  getD-places n i l = getD-from 0 n i l ∙ ap g (zero-add i)
+  at-place : (n i : ℕ) → i < n → getD (map g (upFrom 0 n)) i 0 ≡ g i
+  at-place n i l = getD-places g 0 0 n i l ∙ ap g (zero-add i)
 
   length-places : (n : ℕ) → length (map g (upFrom 0 n)) ≡ n
   length-places n = length-map (upFrom 0 n) g ∙ length-upFrom 0 n
@@ -37,7 +32,7 @@ module _ (g : ℕ → ℕ) where
   -- an array of that size that agrees at each place is that array
   by-places : (n : ℕ) (l : List ℕ) → length l ≡ n → ((i : ℕ) → i < n → getD l i 0 ≡ g i) → l ≡ map g (upFrom 0 n)
   by-places n l size h =
-      ext-getD 0 l (map g (upFrom 0 n)) (size ∙ sym (length-places n)) (λ i b. let c : i < n = omega arith in h i c ∙ sym (getD-places n i c))
+      ext-getD 0 l (map g (upFrom 0 n)) (size ∙ sym (length-places n)) (λ i b. let c : i < n = omega arith in h i c ∙ sym (at-place n i c))
 
 -- an array of words of 64 bits
 module _ (bit : ℕ → ℕ → Bool) (n : ℕ) where
@@ -48,13 +43,13 @@ module _ (bit : ℕ → ℕ → Bool) (n : ℕ) where
   words = map (λ (i : ℕ). packed 64 (λ (j : ℕ). bit i j)) (upFrom 0 n)
 
   has-words : (i j : ℕ) → i < n → j < 64 → has j (getD words i 0) ≡ bit i j
-  has-words i j l m = ap (has j) (getD-places wordAt n i l) ∙ has-packed 64 (λ (j : ℕ). bit i j) j m
+  has-words i j l m = ap (has j) (at-place wordAt n i l) ∙ has-packed 64 (λ (j : ℕ). bit i j) j m
 
   words-below : (i : ℕ) → getD words i 0 < 2 ^ 64
   words-below i =
       by-order n i
       (λ l. rw (List·getD-eq-default words 0 {n = i} (rw (length-places wordAt n) l)) (pow-pos 64))
-      (λ l. rw (getD-places wordAt n i l) (packed-below 64 (λ (j : ℕ). bit i j)))
+      (λ l. rw (at-place wordAt n i l) (packed-below 64 (λ (j : ℕ). bit i j)))
 
   by-bits : (l : List ℕ) → length l ≡ n → ((i : ℕ) → getD l i 0 < 2 ^ 64) → ((i j : ℕ) → i < n → j < 64 → has j (getD l i 0) ≡ bit i j)
       → l ≡ words
@@ -72,9 +67,12 @@ module _ (values : Values) (clause : ℕ → List ℕ) (clauses : ℕ) where
   abbrev numbers : ℕ → ℕ
   numbers c = number values clause clauses c
 
-  number-inside : (c : ℕ) → c < clauses → number values clause clauses c ≡ once (weighs values) (clause c)
+  pub number-here : (c : ℕ) → c < clauses → number values clause clauses c ≡ readWhole values (clause c)
   unfolding number
-  number-inside c l = rw (lt-ltb c clauses l, number) (whole-is-once values (clause c))
+  number-here c l = rw (lt-ltb c clauses l, number)
+
+  number-inside : (c : ℕ) → c < clauses → number values clause clauses c ≡ once (weighs values) (clause c)
+  number-inside c l = number-here c l ∙ whole-is-once values (clause c)
 
   number-behind : (c : ℕ) → clauses ≤ c → number values clause clauses c ≡ 0
   unfolding number
@@ -124,7 +122,7 @@ module _ (values : Values) (clause : ℕ → List ℕ) (clauses : ℕ) where
         let rowed : rows ≡ words rowBits 5120 = ap (λ (x : Counters). x .rows) e in
         let counted : counts ≡ map numbers (upFrom 0 640) = ap (λ (x : Counters). x .counts) e in
         let its-asking : asking ≡ words askBits 10 = ap (λ (x : Counters). x .asking) e in
-        let numbered : (c : ℕ) → c < 640 → getD counts c 0 ≡ number values clause clauses c = λ c l. rw counted (getD-places numbers 640 c l) in
+        let numbered : (c : ℕ) → c < 640 → getD counts c 0 ≡ number values clause clauses c = λ c l. rw counted (at-place numbers 640 c l) in
         record {
           few = few;
           sizes = (rw counted (length-places numbers 640), rw its-asking (length-places (wordAt askBits 10) 10), rw rowed (length-places (wordAt rowBits 5120) 5120));

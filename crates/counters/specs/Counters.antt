@@ -8,7 +8,7 @@ use lib.Dec.{eqb, leb, ltb}
 use lib.ListN.{length, getD}
 use Rattle.bits.specs.Bits.{has, packed}
 use Rattle.definitions.specs.Lists.{any, filter, distinct, upFrom}
-use Rattle.theory.specs.ClauseNumbers.{Numbers}
+use Rattle.definitions.specs.ClauseNumbers.{Numbers}
 use Rattle.encoding.specs.Lent.{Array, Lent}
 use Rattle.encoding.specs.Values.{Values, trueWord}
 use Rattle.units.specs.Units.{notFalseWords}

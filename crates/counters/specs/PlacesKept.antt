@@ -11,7 +11,7 @@ use lib.Pow.{pow-pos}
 use borrow.Author.Tests.{ltb-true, lt-ltb, le-ltb}
 use Rattle.definitions.specs.Lists.{any}
 use Rattle.theory.specs.Tests.{by-test, and-left}
-use Rattle.bits.specs.Bits.{has, has-zero}
+use Rattle.bits.specs.Bits.{has-zero}
 use Rattle.encoding.specs.ArrayLaws.{getD-repeated}
 use Rattle.counters.specs.Counters.{numberAsks, rowAt, askAt}
 use Rattle.counters.specs.Weights.{one-if, once, WeightStep, step-sum}

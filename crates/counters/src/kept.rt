@@ -1,5 +1,4 @@
 // Setting and undoing a literal: the counters of the clauses that hold it or its negation. The values are set elsewhere.
-ghost use mathlib.Core.Path.{_≡_};
 ghost use Prim.Native.Nat.{_-_, _≤_, _<_};
 ghost use lib.ListN.{take, drop};
 ghost use Rattle.encoding.specs.Values.{Values, assigned, unassigned};

@@ -7,6 +7,7 @@ pub mod Sheet
 pub mod Questions
 pub mod Search
 pub mod LiteralTest
+pub mod ClauseNumbers
 pub mod Verdicts
 pub mod Listing
 pub mod Text

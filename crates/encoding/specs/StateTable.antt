@@ -1,20 +1,19 @@
 -- The table of states that the words took the place of: both stand for each other. Assumes nothing.
 use Prim.Native.Nat.{ℕ, zero, suc, _+_, _-_, _*_, _/_, _%_, _^_, _≤_, _<_}
 use mathlib.Core.Path.{_≡_, refl, sym, ap, ap₂, _∙_}
-use mathlib.Core.Option.{some}
-use mathlib.Core.List.{List, [], _∷_, _++_, map, map-append}
+use mathlib.Core.List.{List, _∷_, _++_, map, map-append}
 use native.Mathlib.Omega.{arith}
 use lib.Dec.{eqb, ltb}
-use lib.ListN.{length, getD, getElem?, replicate}
+use lib.ListN.{length, getD, replicate}
 use borrow.Author.Tests.{eqb-true, eqb-false, ltb-true, ltb-false}
-use Rattle.bits.specs.Bits.{has, has-high}
+use Rattle.bits.specs.Bits.{has-high}
 use Rattle.definitions.specs.Lists.{upFrom}
 use Rattle.definitions.specs.Words.{Atom}
 use Rattle.definitions.specs.Search.{Trail}
 use Rattle.definitions.specs.LiteralTest.{Value, unsetValue, atomState}
 use Rattle.theory.specs.Tests.{by-test}
 use Rattle.theory.specs.ListLaws.{Different}
-use Rattle.theory.specs.PlaceLaws.{getElem-in, upFrom-append, map-places}
+use Rattle.theory.specs.PlaceLaws.{getElem-in, upFrom-append, map-places, getD-places}
 use Rattle.theory.specs.TableLaws.{position-at}
 use Rattle.encoding.specs.Values.{Values, setPlace, truePlace, bitIn, setBit, trueBit, valueAt}
 use Rattle.encoding.specs.StateWords.{tellsSet, tellsTrue, set-told, true-told, same-values}
@@ -56,18 +55,12 @@ pub record ValuesFit (values : Values) : Type 0 where
   pub size : length values ≡ 8
   pub narrow : (k : ℕ) → k < 8 → getD values k 0 < 2 ^ 64
 
-place-of : (f : ℕ → Value) (at n i : ℕ) → i < n → getD (map f (upFrom at n)) i unsetValue ≡ f (at + i)
-unfolding upFrom
-place-of f at zero i l = absurd (omega arith)
-place-of f at (suc n) zero l = let e : at + 0 ≡ at = omega arith in rw e
-place-of f at (suc n) (suc i) l = let e : at + suc i ≡ suc at + i = omega arith in rw e (place-of f (suc at) n i (omega arith))
-
 module _ (v u : Values) (fit : ValuesFit v) (fits : ValuesFit u) (same : statesIn v ≡ statesIn u) where
   same-state : (i : ℕ) → i < 256 → valueAt v i ≡ valueAt u i
   unfolding statesIn
   same-state i l =
       let at : 0 + i ≡ i = omega arith in
-      rw at at (sym (place-of (valueAt v) 0 256 i l) ∙ ap (λ (t : List Value). getD t i unsetValue) same ∙ place-of (valueAt u) 0 256 i l)
+      rw at at (sym (getD-places (valueAt v) unsetValue 0 256 i l) ∙ ap (λ (t : List Value). getD t i unsetValue) same ∙ getD-places (valueAt u) unsetValue 0 256 i l)
 
   same-set : (i : ℕ) → i < 256 → setBit v i ≡ setBit u i
   same-set i l = set-told v i ∙ ap tellsSet (same-state i l) ∙ sym (set-told u i)

@@ -35,7 +35,7 @@ use Rattle.log.specs.StoreLaws.{clause-kept, take-sets-le}
 use Rattle.log.specs.Logging.{Log, headWords, wordUnder, takenSlot, entersSlot, stored, putClause, tooMany, logTaken, logUnder}
 use Rattle.counters.specs.Counters.{Counters, countersOf}
 use Rattle.counters.specs.CounterLaws.{counters-same}
-use Rattle.counters.specs.Setting.{CountersFit, counters-fit, IsUnset}
+use Rattle.counters.specs.Setting.{StayKept, CountersFit, counters-fit, IsUnset}
 use Rattle.counters.specs.Undoing.{Undoable, undone-open}
 use Rattle.counters.specs.TrailCounts.{literal-unset, entries-undoable}
 use Rattle.machine.specs.Machine.{Machine, logIn, Stands, Running, actOf}
@@ -61,12 +61,9 @@ NextKept r m k = CountsKept (m .exit) (runAfter r) (k .exit)
 abbrev pub EndKept : Ended → Both Machine Machine → Both Counters Counters → Type 0
 EndKept r m k = CountsKept (m .exit) (r .run) (k .exit)
 
--- a function that changes values keeps the counters of so many clauses, whatever they are
-abbrev pub KeepsOn : ℕ → Values → Counters → Values → Counters → Type 0
-KeepsOn clauses values k values′ k′ = (clause : ℕ → List ℕ) → k ≡ countersOf values clause clauses → k′ ≡ countersOf values′ clause clauses
-
+-- a function that changes values keeps the counters of whatever clauses they were those of, as far as the words go that so many clauses take
 abbrev pub StillKept : ℕ → LentValues → Both Counters Counters → Type 0
-StillKept clauses values k = KeepsOn clauses (values .entry .now) (k .entry) (values .exit .now) (k .exit)
+StillKept clauses values k = StayKept ((clauses + 63) / 64) (values .entry .now) (k .entry) (values .exit .now) (k .exit)
 
 -- ── what the steps ask of them ──
 

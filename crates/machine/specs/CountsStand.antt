@@ -1,19 +1,18 @@
 -- The counters of the machine say of each clause of the state what is found by reading it whole, after however many steps. Assumes nothing.
 use Prim.Native.Nat.{ℕ, suc, _+_, _-_, _*_, _%_, _≤_, _<_}
-use mathlib.Core.Path.{_≡_, refl, sym, ap, ap₂, _∙_}
+use mathlib.Core.Path.{_≡_, refl, sym, ap, ap₂, _∙_, subst}
 use mathlib.Core.Bool.{Bool, not, and-true, and-false}
-use mathlib.Core.Option.{some}
 use mathlib.Core.List.{List, [], _∷_, _++_, map, map-append, map-map, Memᴰ·append-left, Memᴰ·append-right, Memᴰ·map}
 use native.Mathlib.Nat.{zero-add}
 use native.Mathlib.Omega.{arith}
 use lib.Dec.{leb}
 use lib.ListN.{length, take, length-map, length-append}
 use lib.Seq.{take-at}
-use borrow.Author.Tests.{leb-true, leb-false, le-leb, lt-leb, lt-ltb}
+use borrow.Author.Tests.{leb-true, leb-false, le-leb, lt-leb}
 use Rattle.definitions.specs.Lists.{_∈_, any, filter, distinct, upFrom}
 use Rattle.definitions.specs.Words.{Atom, Literal, sameLiteral, Clause, Problem}
 use Rattle.definitions.specs.Instances.{taskOf}
-use Rattle.definitions.specs.Search.{Trail, isTrue, isFalse, Logged, clauseOf, State, notFalse, start, Outcome, more, done, cameTo, nextAct, run}
+use Rattle.definitions.specs.Search.{Trail, isTrue, isFalse, Logged, clauseOf, State, notFalse, start, Outcome, more, done, cameTo, run}
 use Rattle.theory.specs.Tests.{by-test}
 use Rattle.theory.specs.ListLaws.{filter-length}
 use Rattle.theory.specs.DistinctLaws.{distinct-length, any-distinct}
@@ -22,7 +21,8 @@ use Rattle.theory.specs.WordLaws.{sameLiteral-eq}
 use Rattle.theory.specs.SearchLaws.{Consistent}
 use Rattle.theory.specs.Unknown.{consistent}
 use Rattle.theory.specs.Limits.{Searchable}
-use Rattle.theory.specs.ClauseNumbers.{clauseNumbers, mayAct, nextActAmong, clausesOf, asking-enough, clauses-short}
+use Rattle.definitions.specs.ClauseNumbers.{clauseNumbers, mayAct, clausesOf}
+use Rattle.theory.specs.NumberLaws.{clauses-short}
 use Rattle.encoding.specs.CountLaws.{length-upFrom}
 use Rattle.encoding.specs.Encoding.{literalWord, clauseWords}
 use Rattle.encoding.specs.Standing.{Valued}
@@ -32,10 +32,10 @@ use Rattle.encoding.specs.declared.Sizes.{Sizes}
 use Rattle.units.specs.Units.{clauseAt}
 use Rattle.units.specs.FalseWords.{words-left, not-false-words}
 use Rattle.counters.specs.Counters.{countNotFalse, countTrue, readWhole, told, numberAsks, number, Counters, countersOf, askAt}
-use Rattle.counters.specs.CounterLaws.{ask-inside}
+use Rattle.counters.specs.CounterLaws.{number-here, ask-inside}
 use Rattle.machine.specs.Machine.{Machine, StandsWith, NextStands, Loaded}
 use Rattle.machine.specs.MachineSteps.{machineRun, runAfter}
-use Rattle.machine.specs.Counting.{countersIn}
+use Rattle.machine.specs.Counting.{countersIn, CountsKept}
 use Rattle.machine.specs.Loading.{startRun}
 use Rattle.machine.specs.RunStands.{stateAfter, loaded-run}
 use Rattle.machine.specs.declared.Run.{Run}
@@ -90,16 +90,10 @@ first-of g n k l =
     ∙ ap (take n) (map-append g (upFrom 0 n) (upFrom (0 + n) (k - n)))
     ∙ take-at (map g (upFrom 0 n)) (map g (upFrom (0 + n) (k - n))) n (length-map (upFrom 0 n) g ∙ length-upFrom 0 n)
 
-number-here : (values : Values) (clause : ℕ → List ℕ) (clauses c : ℕ) → c < clauses → number values clause clauses c ≡ readWhole values (clause c)
-unfolding number
-number-here values clause clauses c l = rw (lt-ltb c clauses l, number)
-
--- what the counters of a state say: the kept numbers are those found by reading each clause whole, each clause asks by them, and step A makes
--- its choice over the clauses that ask
+-- what the counters of a state say: the kept numbers are those found by reading each clause whole, and each clause asks by them
 pub record NumbersStand (p : Problem) (s : State) (k : Counters) : Type 0 where
   pub numbers : map told (take (length (clausesOf (p .clauses) s)) (k .counts)) ≡ map (clauseNumbers (s .trail)) (clausesOf (p .clauses) s)
   pub asking : map (askAt (k .asking)) (upFrom 0 (length (clausesOf (p .clauses) s))) ≡ map (λ (c : Clause). mayAct (clauseNumbers (s .trail) c)) (clausesOf (p .clauses) s)
-  pub choice : nextActAmong (λ (c : Clause). mayAct (clauseNumbers (s .trail) c)) (taskOf p) s ≡ nextAct (taskOf p) s
 
 -- a number asks by what it says
 asks-told : (n : ℕ) → numberAsks n ≡ mayAct (told n)
@@ -164,13 +158,17 @@ module _ {Counts : Type 0} (p : Problem) (limits : Searchable p) (s : State) (m 
       (λ i c below its same. ask-inside (m .trail .values) words (r .clauses) few i below ∙ asks-told (readWhole (m .trail .values) (words i)) ∙ ap mayAct (clause-told i c its same))
 
   pub numbers-stand : NumbersStand p s (countersIn m r)
-  numbers-stand = record { numbers = numbers-told; asking = asking-told; choice = asking-enough (taskOf p) s trail-consistent }
+  numbers-stand = record { numbers = numbers-told; asking = asking-told }
 
 -- ── after however many steps, the last too ──
 
--- the counters after so many steps from the start
-abbrev pub countersAfter : List ℕ → Sizes → ℕ → ℕ → Machine → Counters
-countersAfter rules sizes budget n m = countersIn (machineRun rules sizes budget n m (startRun sizes) .arrays) (runAfter (machineRun rules sizes budget n m (startRun sizes) .next))
+-- the machine and its counts after so many steps from the start, and the counters that are kept for them
+module _ (rules : List ℕ) (sizes : Sizes) (budget n : ℕ) (m : Machine) where
+  abbrev pub KeptAfter : Counters → Type 0
+  KeptAfter k = CountsKept (machineRun rules sizes budget n m (startRun sizes) .arrays) (runAfter (machineRun rules sizes budget n m (startRun sizes) .next)) k
+
+  abbrev pub countersAfter : Counters
+  countersAfter = countersIn (machineRun rules sizes budget n m (startRun sizes) .arrays) (runAfter (machineRun rules sizes budget n m (startRun sizes) .next))
 
 next-numbers : (p : Problem) → Searchable p → (budget : ℕ) (o : Outcome) (next : Next) (m : Machine) → NextStands p budget o next m
     → NumbersStand p (cameTo o) (countersIn m (runAfter next))
@@ -178,6 +176,7 @@ unfolding cameTo
 next-numbers p limits budget (more s) next m (r, e, h) = rw e (numbers-stand p limits s m r h)
 next-numbers p limits budget (done v s) next m (r, e, h) = rw e (numbers-stand p limits s m r h)
 
-pub run-numbers : (p : Problem) (sizes : Sizes) (rules : List ℕ) (m : Machine) → Loaded p sizes rules m → (budget n : ℕ)
-    → NumbersStand p (stateAfter p budget n) (countersAfter rules sizes budget n m)
-run-numbers p sizes rules m loaded budget n = next-numbers p (loaded .limits) budget (run (taskOf p) budget n (start (taskOf p))) _ _ (loaded-run p sizes rules m loaded budget n)
+pub run-numbers : (p : Problem) (sizes : Sizes) (rules : List ℕ) (m : Machine) → Loaded p sizes rules m → (budget n : ℕ) (k : Counters) → KeptAfter rules sizes budget n m k
+    → NumbersStand p (stateAfter p budget n) k
+run-numbers p sizes rules m loaded budget n k kept =
+    subst (NumbersStand p (stateAfter p budget n)) (sym kept) (next-numbers p (loaded .limits) budget (run (taskOf p) budget n (start (taskOf p))) _ _ (loaded-run p sizes rules m loaded budget n))

@@ -5,7 +5,7 @@
 -- `definitions`; where arrays are spoken of, the crate that has them says how they stand. What is taken from the theory are proofs.
 -- Assumes nothing.
 use Prim.Native.Nat.{ℕ, _%_, _≤_}
-use mathlib.Core.Path.{_≡_, ap, _∙_}
+use mathlib.Core.Path.{_≡_, refl, ap, _∙_}
 use mathlib.Core.Logic.{_⊎_}
 use mathlib.Core.Bool.{true, false, _||_}
 use mathlib.Core.List.{List, [], _++_, map}
@@ -19,6 +19,7 @@ use Rattle.definitions.specs.Sheet.{Line, nothing, decimal}
 use Rattle.definitions.specs.Questions.{Asked, no, yes, columns, connected, hasReverse, standsFor, rulesOf, Draft, readLine, accepted, read}
 use Rattle.definitions.specs.Search.{Trail, isTrue, Logged, clauseOf, notFalse, actOn, isGoal, loggedAct, nextAct, State, start, done, cameTo, run, search}
 use Rattle.definitions.specs.LiteralTest.{literalTest, TellsApart}
+use Rattle.definitions.specs.ClauseNumbers.{clauseNumbers, mayAct, nextActAmong, clausesOf}
 use Rattle.definitions.specs.Verdicts.{FirstChoice, SpentWhen, FullWhen}
 use Rattle.definitions.specs.Dimacs.{Cnf, cnfOf, headerLine, cnfText, readCnf, CnfLimits}
 use Rattle.definitions.specs.Call.{Lending, afterLending, call, roomAfter, Comes, FromSearch}
@@ -34,7 +35,7 @@ use Rattle.theory.specs.CallLaws.{call-comes, answer-from-search, its-search}
 use Rattle.theory.specs.TruthLaws.{search-tells-apart}
 use Rattle.theory.specs.TwoWayLaws.{equivalence-rules, rules-equivalence, lines-rules}
 use Rattle.theory.specs.Limits.{accepted-from-lines}
-use Rattle.theory.specs.ClauseNumbers.{clauseNumbers, mayAct, nextActAmong, clausesOf}
+use Rattle.theory.specs.NumberLaws.{search-asking}
 use Rattle.theory.specs.Demand3.{never-satisfied, never-unknown}
 use Rattle.theory.specs.Connected.{connected-heads, head-apart}
 use Rattle.theory.specs.BlankColumns.{nothing-blank, passed-over, blank-line, same-reading, same-accepted, same-results, same-keeps}
@@ -51,8 +52,8 @@ use Rattle.encoding.specs.declared.Sizes.{Sizes}
 use Rattle.machine.specs.Machine.{Machine, Loaded}
 use Rattle.machine.specs.Loading.{accepted-arrays}
 use Rattle.machine.specs.RunStands.{valuesAfter, run-words}
-use Rattle.counters.specs.Counters.{told, askAt}
-use Rattle.machine.specs.CountsStand.{countersAfter, run-numbers}
+use Rattle.counters.specs.Counters.{Counters, told, askAt}
+use Rattle.machine.specs.CountsStand.{KeptAfter, countersAfter, run-numbers}
 use Rattle.cnf_reader.specs.CnfArrays.{cnfRead, heldClauses}
 use Rattle.cnf_reader.specs.CnfArrayLaws.{cnf-held}
 
@@ -224,6 +225,10 @@ pub request-5-heads : (k : Task) (t : Trail) (g : Logged)
     → loggedAct k t g ≡ actOn t (λ (l : Literal). isGoal k l || all (isTrue t) (distinct sameLiteral (g .instance .heads))) (notFalse t (clauseOf g))
 request-5-heads = heads-once
 
+-- Where so many steps of a search come to.
+abbrev reached : Problem → ℕ → ℕ → State
+reached p budget steps = cameTo (run (taskOf p) budget steps (start (taskOf p)))
+
 -- 6/14. The states of the goal atoms are two words of 64 bits, one for set and one for true. They are in the arrays of a search. `Loaded` is
 -- what `search` requires of these for a problem, and there are such arrays for every accepted sheet.
 pub request-6-arrays : (sheet : List ℕ) (p : Problem) → read sheet ≡ accepted p → (rules : List ℕ) × (m : Machine) × Loaded p (sizesOf p) rules m
@@ -231,9 +236,6 @@ request-6-arrays = accepted-arrays
 
 -- By the contract of `one_step` a step of the code is one of `machineStep`, so `valuesAfter` are the words after so many of them. However many
 -- they are, and where the search ends too,
-abbrev reached : Problem → ℕ → ℕ → State
-reached p budget steps = cameTo (run (taskOf p) budget steps (start (taskOf p)))
-
 module _ (p : Problem) (sizes : Sizes) (rules : List ℕ) (m : Machine) (loaded : Loaded p sizes rules m) (budget steps : ℕ) where
   abbrev words : Values
   words = valuesAfter rules sizes budget steps m
@@ -280,23 +282,28 @@ module _ (sheet : List ℕ) (p : Problem) (reads : read sheet ≡ accepted p) wh
   pub request-7-rules : (v : Assignment) → Satisfies v p → (r : Rule) → r ∈ p .rules → SatisfiesRule v (p .constants) r
   request-7-rules v satisfies = lines-rules v p (accepted-from-lines sheet p reads) (satisfies .lines)
 
--- 8/14. Of each clause, goal clauses and log, a search keeps how many of its different literals are not false and whether any is true. By the
--- contracts of `enter_all` and `one_step` the arrays in which it does are `countersAfter` so many steps. However many they are, and where the
--- search ends too,
-module _ (p : Problem) (sizes : Sizes) (rules : List ℕ) (m : Machine) (loaded : Loaded p sizes rules m) (budget steps : ℕ) where
+-- 8/14. Of each clause, goal clauses and log, a search keeps how many of its different literals are not false and whether any is true. The
+-- contracts of `enter_all` and `one_step` say of the arrays in which it does that they are `KeptAfter` so many steps: those of the clauses and
+-- values that the machine has then, whatever was set and undone on the way. There are such arrays for all arrays of a search, which in turn
+-- there are for every accepted sheet (`request-6-arrays`).
+pub request-8-arrays : (sizes : Sizes) (rules : List ℕ) (m : Machine) (budget steps : ℕ) → KeptAfter rules sizes budget steps m (countersAfter rules sizes budget steps m)
+request-8-arrays sizes rules m budget steps = refl
+
+-- However many steps they are, and where the search ends too,
+module _ (p : Problem) (sizes : Sizes) (rules : List ℕ) (m : Machine) (loaded : Loaded p sizes rules m) (budget steps : ℕ)
+    (k : Counters) (kept : KeptAfter rules sizes budget steps m k) where
   abbrev clauses : List Clause
   clauses = clausesOf (p .clauses) (reached p budget steps)
 
   -- the kept numbers are those found by reading each clause whole,
-  pub request-8 : map told (take (length clauses) (countersAfter rules sizes budget steps m .counts)) ≡ map (clauseNumbers (reached p budget steps .trail)) clauses
-  request-8 = run-numbers p sizes rules m loaded budget steps .numbers
+  pub request-8 : map told (take (length clauses) (k .counts)) ≡ map (clauseNumbers (reached p budget steps .trail)) clauses
+  request-8 = run-numbers p sizes rules m loaded budget steps k kept .numbers
 
-  -- the bits of the clauses that ask say which have no true literal and at most one that is not false,
-  pub request-8-asking : map (askAt (countersAfter rules sizes budget steps m .asking)) (upFrom 0 (length clauses))
-      ≡ map (λ (c : Clause). mayAct (clauseNumbers (reached p budget steps .trail) c)) clauses
-  request-8-asking = run-numbers p sizes rules m loaded budget steps .asking
+  -- and one bit a clause says whether none is true and at most one is not false.
+  pub request-8-asking : map (askAt (k .asking)) (upFrom 0 (length clauses)) ≡ map (λ (c : Clause). mayAct (clauseNumbers (reached p budget steps .trail) c)) clauses
+  request-8-asking = run-numbers p sizes rules m loaded budget steps k kept .asking
 
-  -- and among these alone the unit step's choice is the one that it makes among all.
-  pub request-8-choice : nextActAmong (λ (c : Clause). mayAct (clauseNumbers (reached p budget steps .trail) c)) (taskOf p) (reached p budget steps)
-      ≡ nextAct (taskOf p) (reached p budget steps)
-  request-8-choice = run-numbers p sizes rules m loaded budget steps .choice
+-- Among the clauses with this bit alone the unit step's choice is the one that it makes among all.
+pub request-8-choice : (p : Problem) (budget steps : ℕ)
+    → nextActAmong (λ (c : Clause). mayAct (clauseNumbers (reached p budget steps .trail) c)) (taskOf p) (reached p budget steps) ≡ nextAct (taskOf p) (reached p budget steps)
+request-8-choice p = search-asking (taskOf p)

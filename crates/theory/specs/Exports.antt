@@ -25,7 +25,7 @@ use Rattle.theory.specs.Invariants.{Sound, search-sound}
 use Rattle.theory.specs.Limits.{Limits, limits-searchable, accepted-limits}
 use Rattle.theory.specs.ListingLaws.{decimals-length, clause-length}
 use Rattle.theory.specs.Sizes.{instance-heads}
-use Rattle.theory.specs.ClauseNumbers.{clauses-short}
+use Rattle.theory.specs.NumberLaws.{clauses-short}
 use Rattle.theory.specs.CnfReads.{cnf-round-trip}
 
 -- ── the length of a text ──
@@ -66,7 +66,7 @@ header-length atoms clauses h g =
 
 -- ── what is exported ──
 
--- at most so many literals, whose atoms stand in the table, and before a place
+-- at most so many literals, whose atoms stand in the table before a place
 record Numbered (table : List Atom) (most highest : ℕ) (c : Clause) : Type 0 where
   few : length c ≤ most
   low : (l : Literal) → l ∈ c → position table (l .atom) < highest

@@ -26,7 +26,7 @@ pub mod Sources
 pub mod Invariants
 pub mod ListingLaws
 pub mod Sizes
-pub mod ClauseNumbers
+pub mod NumberLaws
 pub mod Theorems
 pub mod CallLaws
 pub mod Demand3

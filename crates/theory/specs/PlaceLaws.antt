@@ -81,6 +81,13 @@ map-places f g a (x ∷ xs) h =
     let here : a + 0 ≡ a = omega arith in
     cc (h 0 x refl, map-places f g (suc a) xs (λ i y e. let next : suc a + i ≡ a + suc i = omega arith in ap f next ∙ h (suc i) y e))
 
+-- and stands at that place
+pub getD-places : {A : Type 0} (f : ℕ → A) (d : A) (a n i : ℕ) → i < n → getD (map f (upFrom a n)) i d ≡ f (a + i)
+unfolding upFrom
+getD-places f d a zero i l = absurd (omega arith)
+getD-places f d a (suc n) zero l = let e : a + 0 ≡ a = omega arith in rw e
+getD-places f d a (suc n) (suc i) l = let e : suc a + i ≡ a + suc i = omega arith in getD-places f d (suc a) n i (omega arith) ∙ rw e
+
 -- a rising list of numbers holds just those in its range
 pub upFrom-in : (first n c : ℕ) → c ∈ upFrom first n → (first ≤ c) × (c < first + n)
 unfolding upFrom

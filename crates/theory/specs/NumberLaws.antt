@@ -1,64 +1,29 @@
--- The numbers of a clause: how many of its different literals are not false, and whether any is true. A clause with a true literal, or with two
--- that are not false, asks for nothing, so step A may pass it over unread. Assumes nothing.
-use Prim.Native.Nat.{ℕ, suc, _+_, _≤_}
-use mathlib.Core.Path.{_≡_, refl, sym, ap, subst, _∙_}
-use mathlib.Core.Bool.{Bool, true, false, not, _&&_}
-use mathlib.Core.Option.{Option, none, some}
-use mathlib.Core.List.{List, [], _∷_, _++_, map, List·Memᴰ·not-nil, List·Memᴰ·eq-of-singleton, Memᴰ·of-map}
+-- A clause with a true literal, or with two that are not false, asks for nothing, so step A may pass it over unread. Assumes nothing.
+use Prim.Native.Nat.{ℕ, _≤_}
+use mathlib.Core.Path.{_≡_, refl, subst}
+use mathlib.Core.Bool.{Bool, true, false}
+use mathlib.Core.Option.{none}
+use mathlib.Core.List.{[], _∷_, List·Memᴰ·not-nil, List·Memᴰ·eq-of-singleton, Memᴰ·of-map}
 use native.Mathlib.Omega.{arith}
 use lib.Dec.{leb}
 use lib.ListN.{length}
-use Rattle.definitions.specs.Lists.{_∈_, any, filter, firstSome, Lists·all}
-use Rattle.definitions.specs.Words.{Literal, negate, plain, Clause, Problem, Words·all}
+use Rattle.definitions.specs.Lists.{_∈_, any, filter, firstSome}
+use Rattle.definitions.specs.Words.{Literal, Clause, Problem}
 use Rattle.definitions.specs.Instances.{Task, taskOf}
-use Rattle.definitions.specs.Search.{decided, Trail, isTrue, isFalse, isUnset, Logged, clauseOf, State, Act, notFalse, actOn, goalAct, loggedAct, nextAct, Search·all}
+use Rattle.definitions.specs.Search.{Trail, isTrue, isFalse, isUnset, Logged, clauseOf, State, start, Outcome, more, done, cameTo, run, notFalse, actOn, goalAct, loggedAct, nextAct}
+use Rattle.definitions.specs.ClauseNumbers.{clauseNumbers, mayAct, nextActAmong, clausesOf}
 use Rattle.theory.specs.Tests.{by-test, by-option, apart}
 use Rattle.theory.specs.ListLaws.{any-some, firstSome-filter, Each, each-append}
 use Rattle.theory.specs.WordLaws.{goal-of}
 use Rattle.theory.specs.SearchLaws.{Consistent, notFalse-of}
+use Rattle.theory.specs.Steps.{After, run-keeps}
+use Rattle.theory.specs.Answers.{Inv, InvTells, start-inv}
+use Rattle.theory.specs.Choices.{choiceWorld, inv-step}
+use Rattle.theory.specs.Unknown.{consistent}
 use Rattle.theory.specs.Limits.{Searchable}
 use Rattle.theory.specs.Invariants.{Sound}
 use Rattle.theory.specs.ListingLaws.{clause-length}
 use Rattle.theory.specs.Sizes.{instance-heads}
-
--- ── what they are ──
-
-pub record Numbers : Type 0 where
-  pub nonFalse : ℕ
-  pub anyTrue : Bool
-
--- found by reading the clause whole
-unfoldable pub clauseNumbers : Trail → Clause → Numbers
-clauseNumbers t c = record { nonFalse = length (notFalse t c); anyTrue = any (isTrue t) c }
-
--- a repeated literal counts once; p and not p are two that are not false, and one once p is set, which is true
-module _ where
-  p : Literal
-  p = plain (record { symbol = 1; args = [] })
-
-  counted : map (clauseNumbers []) ((p ∷ p ∷ []) ∷ (p ∷ negate p ∷ []) ∷ []) ≡ record { nonFalse = 1; anyTrue = false } ∷ record { nonFalse = 2; anyTrue = false } ∷ []
-  unfolding p clauseNumbers Lists·all Words·all Search·all
-  counted = refl
-
-  counted-set : clauseNumbers (record { literal = p; why = decided } ∷ []) (p ∷ negate p ∷ []) ≡ record { nonFalse = 1; anyTrue = true }
-  unfolding p clauseNumbers Lists·all Words·all Search·all
-  counted-set = refl
-
--- none is true, and at most one is not false
-unfoldable pub mayAct : Numbers → Bool
-mayAct n = leb (n .nonFalse) 1 && not (n .anyTrue)
-
--- step A over those clauses alone that pass a test
-unfoldable pub nextActAmong : (Clause → Bool) → Task → State → Option Act
-nextActAmong passes k s =
-    elim (firstSome (goalAct k (s .trail)) (filter passes (k .clauses))) [
-      | some a ↦ some a
-      | none ↦ firstSome (loggedAct k (s .trail)) (filter (λ (g : Logged). passes (clauseOf g)) (s .log))
-    ]
-
--- the clauses of a state
-abbrev pub clausesOf : List Clause → State → List Clause
-clausesOf goals s = goals ++ map clauseOf (s .log)
 
 -- ── step A needs no others ──
 
@@ -86,7 +51,7 @@ module _ (t : Trail) (consistent : Consistent t) where
           cc
       cases (x ∷ y ∷ ls) e = refl
 
-pub asking-enough : (k : Task) (s : State) → Consistent (s .trail) → nextActAmong (λ (c : Clause). mayAct (clauseNumbers (s .trail) c)) k s ≡ nextAct k s
+asking-enough : (k : Task) (s : State) → Consistent (s .trail) → nextActAmong (λ (c : Clause). mayAct (clauseNumbers (s .trail) c)) k s ≡ nextAct k s
 unfolding nextActAmong nextAct goalAct loggedAct
 asking-enough k s consistent =
     let asks : Clause → Bool = λ c. mayAct (clauseNumbers (s .trail) c) in
@@ -107,3 +72,17 @@ clauses-short p limits s sound =
     (λ c m. let (g, n, q) = Memᴰ·of-map clauseOf (s .log) m in
     subst (λ c. (length c ≤ 8) × ((l : Literal) → l ∈ c → l .atom ∈ s .table)) q
     (omega (arith, clause-length g, instance-heads p limits (g .instance) (sound .inv .logOk g n .its)), sound .fits .written g n))
+
+-- ── after every step of a search, and where it ends ──
+
+pub search-asking : (k : Task) (budget n : ℕ)
+    → nextActAmong (λ (c : Clause). mayAct (clauseNumbers (cameTo (run k budget n (start k)) .trail) c)) k (cameTo (run k budget n (start k)))
+    ≡ nextAct k (cameTo (run k budget n (start k)))
+search-asking k budget n =
+    on (run k budget n (start k))
+    (run-keeps k budget (Inv k (choiceWorld k)) (InvTells k (choiceWorld k)) (inv-step k budget) n (start k) (start-inv k (choiceWorld k)))
+  where
+    on : (o : Outcome) → After (Inv k (choiceWorld k)) (InvTells k (choiceWorld k)) o
+        → nextActAmong (λ (c : Clause). mayAct (clauseNumbers (cameTo o .trail) c)) k (cameTo o) ≡ nextAct k (cameTo o)
+    on (more s) v = unfold cameTo in asking-enough k s (consistent k (v .trailed))
+    on (done w s) v = unfold cameTo in asking-enough k s (consistent k (v .0 .trailed))
