@@ -3,13 +3,13 @@
 use Prim.Native.Nat.{ℕ, _+_}
 use mathlib.Core.Path.{_≡_, refl, sym, _∙_, ap}
 use mathlib.Core.Bool.{not}
-use mathlib.Core.List.{List, [], _∷_, _++_, map}
+use mathlib.Core.List.{List, [], _∷_, map}
 use native.Mathlib.Numerals.{add-one}
 use native.Mathlib.Omega.{arith}
 use lib.ListN.{length, length-map, length-append}
 use Rattle.definitions.specs.Lists.{joined, upFrom}
 use Rattle.definitions.specs.Words.{Atom, Literal, Clause, Problem, position}
-use Rattle.definitions.specs.Search.{clauseOf, State}
+use Rattle.definitions.specs.Search.{clauseOf, State, clausesOf}
 use Rattle.definitions.specs.Sheet.{Number}
 use Rattle.definitions.specs.Dimacs.{tableNumber, cnfOf, literalText, clauseText, cnfText}
 use Rattle.theory.specs.ListLaws.{joined-append}
@@ -61,16 +61,16 @@ module _ (p : Problem) (budget : ℕ) (s : State) (ended : Ended) (given : ℕ) 
       ∙ sym (joined-map (clauseLine (s .table)) clauseOf (s .log))
 
   lines-stand : joined (lineText starts literals) (upFrom 0 (ended .run .clauses))
-      ≡ joined clauseText (map (map (tableNumber (s .table))) (p .clauses ++ map clauseOf (s .log)))
+      ≡ joined clauseText (map (map (tableNumber (s .table))) (clausesOf (p .clauses) s))
   lines-stand =
       let first = length (p .clauses) in
       let behind = length (s .log) in
       let z : 0 + first ≡ first = omega arith in
-      let all = p .clauses ++ map clauseOf (s .log) in
+      let all = clausesOf (p .clauses) s in
       rw (h .stands .log .clauses, upFrom-append 0 first behind, z, joined-append (lineText starts literals) (upFrom 0 first) (upFrom first behind), goals-stand, log-stands)
       (sym (joined-map clauseText (map (tableNumber (s .table))) all ∙ joined-append (clauseLine (s .table)) (p .clauses) (map clauseOf (s .log))))
 
-  count : ended .run .clauses ≡ length (map (map (tableNumber (s .table))) (p .clauses ++ map clauseOf (s .log)))
+  count : ended .run .clauses ≡ length (map (map (tableNumber (s .table))) (clausesOf (p .clauses) s))
   count = rw (length-map, length-append, length-map) (h .stands .log .clauses)
 
   -- the arrays' text is the state's

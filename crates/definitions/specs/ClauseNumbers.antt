@@ -3,7 +3,7 @@ use Prim.Native.Nat.{ℕ}
 use mathlib.Core.Path.{_≡_, refl}
 use mathlib.Core.Bool.{Bool, true, false, not, _&&_}
 use mathlib.Core.Option.{Option, none, some}
-use mathlib.Core.List.{List, [], _∷_, _++_, map}
+use mathlib.Core.List.{[], _∷_, map}
 use lib.Dec.{leb}
 use lib.ListN.{length}
 use Rattle.definitions.specs.Lists.{any, filter, firstSome, Lists·all}
@@ -44,7 +44,3 @@ nextActAmong passes k s =
       | some a ↦ some a
       | none ↦ firstSome (loggedAct k (s .trail)) (filter (λ (g : Logged). passes (clauseOf g)) (s .log))
     ]
-
--- the clauses of a state
-abbrev pub clausesOf : List Clause → State → List Clause
-clausesOf goals s = goals ++ map clauseOf (s .log)

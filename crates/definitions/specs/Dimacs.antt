@@ -9,7 +9,7 @@ use Rattle.definitions.specs.Bounds.{mostAtoms, mostLiterals, mostExport
 use Rattle.definitions.specs.Words.{Atom, Literal, Clause, position}
 use Rattle.definitions.specs.Sheet.{Number, isDigit}
 use Rattle.definitions.specs.Questions.{Asked, no, yes, _>>=_, _>>_, ask}
-use Rattle.definitions.specs.Search.{State, clauseOf}
+use Rattle.definitions.specs.Search.{State, clausesOf}
 use Rattle.definitions.specs.Listing.{decimals, signedDecimals}
 use Rattle.definitions.specs.Text.{bytes}
 
@@ -26,7 +26,7 @@ tableNumber table l = record { negative = not (l .positive); size = suc (positio
 
 -- "the goal clauses and then the log", repeated literals too; created atoms count, set or not
 unfoldable pub cnfOf : List Clause → State → Cnf
-cnfOf goals s = record { atoms = length (s .table); clauses = map (map (tableNumber (s .table))) (goals ++ map clauseOf (s .log)) }
+cnfOf goals s = record { atoms = length (s .table); clauses = map (map (tableNumber (s .table))) (clausesOf goals s) }
 
 -- ── the text: "one blank stands between the parts of a line, and LF ends each line" ──
 

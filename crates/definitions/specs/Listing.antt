@@ -60,9 +60,11 @@ unfoldable pub literalNumbers : Literal → List Number
 literalNumbers l = record { negative = not (l .positive); size = l .atom .symbol } ∷ map plus (l .atom .args)
 
 -- kind 6: rule number, literal count, literals
+unfoldable pub loggedRow : Logged → List Number
+loggedRow g = plus 6 ∷ plus (g .instance .rule) ∷ plus (length (clauseOf g)) ∷ joined literalNumbers (clauseOf g)
+
 unfoldable pub loggedLine : Logged → List Field
-loggedLine g =
-    map narrow (plus 6 ∷ plus (g .instance .rule) ∷ plus (length (clauseOf g)) ∷ joined literalNumbers (clauseOf g))
+loggedLine g = map narrow (loggedRow g)
 
 -- kind 7: the literal of a set atom
 unfoldable pub setLine : Literal → List Field
@@ -91,5 +93,5 @@ refusalLine question line = lineBytes (map narrow (plus 9 ∷ plus question ∷ 
 
 -- names every definition of this module, for a theorem that computes with all of them
 unfoldable pub Listing·all : Unit {0}
-unfolding decimals signedDecimals rightJustified fieldBytes lineBytes narrow wide answerNumber countLine literalNumbers loggedLine setLine setLiteral settings listingLines listing refusalLine
+unfolding decimals signedDecimals rightJustified fieldBytes lineBytes narrow wide answerNumber countLine literalNumbers loggedRow loggedLine setLine setLiteral settings listingLines listing refusalLine
 Listing·all = tt

@@ -57,6 +57,10 @@ pub record SatisfiesClause (v : Assignment) (c : Clause) : Type 0 where
   pub inside : literal ∈ c
   pub holds : Makes v literal
 
+-- clauses if it satisfies each,
+abbrev pub SatisfiesClauses : Assignment → List Clause → Type 0
+SatisfiesClauses v cs = (c : Clause) → c ∈ cs → SatisfiesClause v c
+
 -- and a filling of a rule if some head literal is false, or the body isn't empty and all its literals are true
 pub data SatisfiesFilling (v : Assignment) (r : Rule) (f : Substitution) : Type 0 where
   headFalse : (p : Pattern) → p ∈ r .heads → Makes v (negate (ground f p)) → SatisfiesFilling v r f
@@ -88,5 +92,5 @@ SatisfiesLine v n (twoWay t) = (f : Substitution) → f ∈ substitutions n (var
 
 -- it satisfies all clauses of a problem and every filling of all its rules, two-way rules as equivalences
 pub record Satisfies (v : Assignment) (p : Problem) : Type 0 where
-  pub clauses : (c : Clause) → c ∈ p .clauses → SatisfiesClause v c
+  pub clauses : SatisfiesClauses v (p .clauses)
   pub lines : (l : RuleLine) → l ∈ p .ruleLines → SatisfiesLine v (p .constants) l

@@ -265,6 +265,10 @@ clauseBehind constants arities literalCount = do
   ask 11 (isEmpty (c .left))
   yes (c .found)
 
+-- 8, 10 and 11: the clause that stands in some columns
+unfoldable pub readClause : ℕ → List ℕ → List Number → Asked Clause
+readClause constants arities ns = clauseCount ns >>= clauseBehind constants arities
+
 -- 8 to 11: the clause of a line of kind 4, where so many clauses stand already
 unfoldable pub clauseAsked : ℕ → List ℕ → ℕ → List Number → Asked Clause
 clauseAsked constants arities clauses ns = do
@@ -374,5 +378,5 @@ read sheet =
 
 -- names every definition of this module, for a theorem that computes with all of them
 unfoldable pub Questions·all : Unit {0}
-unfolding _>>=_ _>>_ ask inFront columns within count rank kindOf ruleArgument clauseArgument arguments literal literals patternOf literalOf patterns clauseLiterals inHead restricted isShared linked eachLinked connected hasReverse reverseRules standsFor rulesOf ways countsAs counted constantsAsked arityAsked ruleCounts ruleBehind ruleAsked twoWayCounts twoWayBehind twoWayAsked clauseCount clauseBehind clauseAsked withConstants withSymbol withLine withClause constantsLine symbolLine ruleLine twoWayLine clauseLine lineOfKind goodLength columnsAsked readLine readLines emptyDraft read
+unfolding _>>=_ _>>_ ask inFront columns within count rank kindOf ruleArgument clauseArgument arguments literal literals patternOf literalOf patterns clauseLiterals inHead restricted isShared linked eachLinked connected hasReverse reverseRules standsFor rulesOf ways countsAs counted constantsAsked arityAsked ruleCounts ruleBehind ruleAsked twoWayCounts twoWayBehind twoWayAsked clauseCount clauseBehind readClause clauseAsked withConstants withSymbol withLine withClause constantsLine symbolLine ruleLine twoWayLine clauseLine lineOfKind goodLength columnsAsked readLine readLines emptyDraft read
 Questions·all = tt

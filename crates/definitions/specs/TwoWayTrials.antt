@@ -7,9 +7,9 @@ use mathlib.Core.List.{List, [], _∷_, _++_, map, cons≢nil, List·Memᴰ·hea
 use lib.Dec.{eqb}
 use lib.ListN.{replicate}
 use Rattle.definitions.specs.Lists.{_∈_, Lists·all}
-use Rattle.definitions.specs.Words.{Clause, variable, Rule, TwoWay, forward, twoWay, Problem, Words·all}
+use Rattle.definitions.specs.Words.{variable, Rule, TwoWay, forward, twoWay, Problem, Words·all}
 use Rattle.definitions.specs.Instances.{Instances·all}
-use Rattle.definitions.specs.Meaning.{Assignment, SatisfiesClause, headFalse, SatisfiesRule, Satisfies}
+use Rattle.definitions.specs.Meaning.{Assignment, SatisfiesClauses, headFalse, SatisfiesRule, Satisfies}
 use Rattle.definitions.specs.Sheet.{Sheet·all}
 use Rattle.definitions.specs.Questions.{accepted, read, Questions·all}
 use Rattle.definitions.specs.Search.{Search·all}
@@ -223,7 +223,7 @@ unfoldable pub bodyAlone : Assignment
 bodyAlone a = eqb (a .symbol) 2
 
 -- satisfies the clause and every filling of the one rule that the line stands for,
-pub clauses-satisfied : (c : Clause) → c ∈ freeProblem .clauses → SatisfiesClause bodyAlone c
+pub clauses-satisfied : SatisfiesClauses bodyAlone (freeProblem .clauses)
 unfolding freeProblem bodyAlone
 clauses-satisfied c m = rw (List·Memᴰ·eq-of-singleton m) (record { literal = _; inside = List·Memᴰ·head refl; holds = refl })
 

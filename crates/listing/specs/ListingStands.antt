@@ -12,7 +12,7 @@ use Rattle.definitions.specs.Words.{Atom, Literal, negate, plain, Clause, Probl
 use Rattle.definitions.specs.Instances.{taskOf}
 use Rattle.definitions.specs.Search.{isFalse, isUnset, Logged, clauseOf, State}
 use Rattle.definitions.specs.Sheet.{Number, plus}
-use Rattle.definitions.specs.Listing.{fieldBytes, lineBytes, narrow, wide, answerNumber, countLine, literalNumbers, loggedLine, setLine, setLiteral, settings, listingLines, listing}
+use Rattle.definitions.specs.Listing.{fieldBytes, lineBytes, narrow, wide, answerNumber, countLine, literalNumbers, loggedRow, loggedLine, setLine, setLiteral, settings, listingLines, listing}
 use Rattle.definitions.specs.declared.Verdict.{Verdict}
 use Rattle.definitions.specs.declared.Verdict.the-variants.{Unsat, Unknown, Spent, Full}
 use Rattle.theory.specs.ListLaws.{joined-append}
@@ -71,7 +71,7 @@ module _ (p : Problem) (budget : ℕ) (s : State) (ended : Ended) (given : ℕ) 
   clause-numbers (l ∷ c) known = cc (word-numbers l (known l (List·Memᴰ·head refl)), clause-numbers c (λ k m. known k (List·Memᴰ·tail m)))
 
   logged-stands : (n : ℕ) (g : Logged) → getElem? (s .log) n ≡ some g → loggedBytes given arities starts literals numbers table n ≡ lineBytes (loggedLine g)
-  unfolding loggedBytes rowBytes loggedNumbers loggedLine clauseWords
+  unfolding loggedBytes rowBytes loggedNumbers loggedRow loggedLine clauseWords
   logged-stands n g e =
       let rule = front-at (λ (x : Logged). x .instance .rule) (s .log) numbers (h .stands .log .numbers) n g 0 e in
       let its-words = h .stands .log .stand .logged n g e in

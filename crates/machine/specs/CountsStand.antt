@@ -12,7 +12,7 @@ use borrow.Author.Tests.{leb-true, leb-false, le-leb, lt-leb}
 use Rattle.definitions.specs.Lists.{_∈_, any, filter, distinct, upFrom}
 use Rattle.definitions.specs.Words.{Atom, Literal, sameLiteral, Clause, Problem}
 use Rattle.definitions.specs.Instances.{taskOf}
-use Rattle.definitions.specs.Search.{Trail, isTrue, isFalse, Logged, clauseOf, State, notFalse, start, Outcome, more, done, cameTo, run}
+use Rattle.definitions.specs.Search.{Trail, isTrue, isFalse, Logged, clauseOf, State, clausesOf, notFalse, start, Outcome, more, done, cameTo, run}
 use Rattle.theory.specs.Tests.{by-test}
 use Rattle.theory.specs.ListLaws.{filter-length}
 use Rattle.theory.specs.DistinctLaws.{distinct-length, any-distinct}
@@ -21,7 +21,7 @@ use Rattle.theory.specs.WordLaws.{sameLiteral-eq}
 use Rattle.theory.specs.SearchLaws.{Consistent}
 use Rattle.theory.specs.Unknown.{consistent}
 use Rattle.theory.specs.Limits.{Searchable}
-use Rattle.definitions.specs.ClauseNumbers.{clauseNumbers, mayAct, clausesOf}
+use Rattle.definitions.specs.ClauseNumbers.{clauseNumbers, mayAct}
 use Rattle.theory.specs.NumberLaws.{clauses-short}
 use Rattle.encoding.specs.CountLaws.{length-upFrom}
 use Rattle.encoding.specs.Encoding.{literalWord, clauseWords}

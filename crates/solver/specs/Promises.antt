@@ -14,12 +14,12 @@ use Rattle.definitions.specs.Lists.{_∈_, all, joined, distinct, upFrom}
 use Rattle.definitions.specs.Bounds.{sheetBytes, roomBytes, mostAtoms, mostExported, exportBytes}
 use Rattle.definitions.specs.Words.{Atom, Literal, sameLiteral, Clause, Rule, TwoWay, twoWay, Problem, goalAtoms}
 use Rattle.definitions.specs.Instances.{substitutions, Instance, Task, taskOf, FillingOf}
-use Rattle.definitions.specs.Meaning.{Choice, Fails, Assignment, SatisfiesClause, SatisfiesRule, SatisfiesLine, Satisfies}
+use Rattle.definitions.specs.Meaning.{Choice, Fails, Assignment, SatisfiesClauses, SatisfiesRule, SatisfiesLine, Satisfies}
 use Rattle.definitions.specs.Sheet.{Line, nothing, decimal}
 use Rattle.definitions.specs.Questions.{Asked, no, yes, columns, connected, hasReverse, standsFor, rulesOf, Draft, readLine, accepted, read}
-use Rattle.definitions.specs.Search.{Trail, isTrue, Logged, clauseOf, notFalse, actOn, isGoal, loggedAct, nextAct, State, start, done, cameTo, run, search}
+use Rattle.definitions.specs.Search.{Trail, isTrue, Logged, clauseOf, notFalse, actOn, isGoal, loggedAct, nextAct, State, clausesOf, start, done, cameTo, run, search}
 use Rattle.definitions.specs.LiteralTest.{literalTest, TellsApart}
-use Rattle.definitions.specs.ClauseNumbers.{clauseNumbers, mayAct, nextActAmong, clausesOf}
+use Rattle.definitions.specs.ClauseNumbers.{clauseNumbers, mayAct, nextActAmong}
 use Rattle.definitions.specs.Verdicts.{FirstChoice, SpentWhen, FullWhen}
 use Rattle.definitions.specs.Dimacs.{Cnf, cnfOf, headerLine, cnfText, readCnf, CnfLimits}
 use Rattle.definitions.specs.Call.{Lending, afterLending, call, roomAfter, Comes, FromSearch}
@@ -266,7 +266,7 @@ request-7-back = rules-equivalence
 -- Elsewhere it may fail: here is an accepted sheet with an assignment that satisfies its clauses and every filling of its rules, and not the
 -- sheet.
 pub request-7-not-back : (sheet : List ℕ) × (p : Problem) × (v : Assignment) × (read sheet ≡ accepted p)
-    × ((c : Clause) → c ∈ p .clauses → SatisfiesClause v c) × ((r : Rule) → r ∈ p .rules → SatisfiesRule v (p .constants) r) × (Satisfies v p → ⊥)
+    × SatisfiesClauses v (p .clauses) × ((r : Rule) → r ∈ p .rules → SatisfiesRule v (p .constants) r) × (Satisfies v p → ⊥)
 request-7-not-back = (freeSheet, freeProblem, bodyAlone, free-read, clauses-satisfied, rules-satisfied, equivalence-broken)
 
 module _ (sheet : List ℕ) (p : Problem) (reads : read sheet ≡ accepted p) where

@@ -11,9 +11,9 @@ use lib.ListN.{length, length-append, getD, drop, List·getD-append}
 use borrow.Author.Tests.{eqb-true, eqb-false, leb-true, le-leb, not-true}
 use Rattle.definitions.specs.Lists.{isEmpty}
 use Rattle.definitions.specs.Bounds.{sheetBytes, longestLine}
-use Rattle.definitions.specs.Words.{constant, Rule, TwoWay, RuleLine, oneWay, twoWay, Clause, Problem}
+use Rattle.definitions.specs.Words.{constant, Rule, TwoWay, RuleLine, oneWay, twoWay, Problem}
 use Rattle.definitions.specs.Sheet.{lines, Number}
-use Rattle.definitions.specs.Questions.{Asked, no, yes, _>>=_, _>>_, ask, Parsed, within, count, rank, kindOf, ruleArgument, clauseArgument, arguments, literal, literals, patternOf, literalOf, patterns, clauseLiterals, ruleCounts, ruleBehind, twoWayCounts, twoWayBehind, clauseCount, clauseBehind, goodLength, accepted, readLines, emptyDraft, read}
+use Rattle.definitions.specs.Questions.{Asked, no, yes, _>>=_, _>>_, ask, Parsed, within, count, rank, kindOf, ruleArgument, clauseArgument, arguments, literal, literals, patternOf, literalOf, patterns, clauseLiterals, ruleCounts, ruleBehind, twoWayCounts, twoWayBehind, clauseBehind, readClause, goodLength, accepted, readLines, emptyDraft, read}
 use Rattle.definitions.specs.Sheets.{Row, isKind}
 use Rattle.theory.specs.Tests.{by-test, apart, and-left, and-right, and-intro}
 
@@ -207,9 +207,6 @@ readRuleLine constants arities row =
       | true ↦ readRule constants arities (drop 1 row) >>= λ r. yes (oneWay r)
       | false ↦ readTwoWay constants arities (drop 1 row) >>= λ t. yes (twoWay t)
     ]
-
-unfoldable pub readClause : ℕ → List ℕ → List Number → Asked Clause
-readClause constants arities ns = clauseCount ns >>= clauseBehind constants arities
 
 -- a line reads the same with more constants and with more symbols behind those that there are
 module _ (constants more : ℕ) (arities others : List ℕ) (h : constants ≤ more) where

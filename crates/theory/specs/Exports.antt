@@ -12,7 +12,7 @@ use Rattle.definitions.specs.Words.{Atom, Literal, Clause, Problem, goalAtoms, 
 use Rattle.definitions.specs.Instances.{taskOf}
 use Rattle.definitions.specs.Sheet.{Number}
 use Rattle.definitions.specs.Questions.{yes, accepted, read}
-use Rattle.definitions.specs.Search.{clauseOf, State, done, search}
+use Rattle.definitions.specs.Search.{clauseOf, State, clausesOf, done, search}
 use Rattle.definitions.specs.Listing.{decimals, signedDecimals}
 use Rattle.definitions.specs.Text.{bytes}
 use Rattle.definitions.specs.Dimacs.{tableNumber, cnfOf, headerLine, literalText, clauseText, cnfText, readCnf, CnfLimits}
@@ -131,7 +131,7 @@ module _ (sheet : List ℕ) (p : Problem) (reads : read sheet ≡ accepted p) (b
       }
     where
       all : List Clause
-      all = p .clauses ++ map clauseOf (s .log)
+      all = clausesOf (p .clauses) s
 
       count : length all ≡ length (p .clauses) + length (s .log)
       count = omega (arith, length-append (p .clauses) (map clauseOf (s .log)), length-map (s .log) clauseOf)
@@ -161,7 +161,7 @@ module _ (sheet : List ℕ) (p : Problem) (reads : read sheet ≡ accepted p) (b
       let numbers = map (tableNumber (s .table)) in
       let goals = map numbers (p .clauses) in
       let logged = map numbers (map clauseOf (s .log)) in
-      let clauses = map numbers (p .clauses ++ map clauseOf (s .log)) in
+      let clauses = map numbers (clausesOf (p .clauses) s) in
       let split : joined clauseText clauses ≡ joined clauseText goals ++ joined clauseText logged
       = ap (joined clauseText) (map-append numbers (p .clauses) (map clauseOf (s .log))) ∙ joined-append clauseText goals logged in
       let parts = length-append (joined clauseText goals) (joined clauseText logged) in

@@ -3,14 +3,15 @@
 use Prim.Native.Nat.{ℕ, suc, _≤_}
 use mathlib.Core.Path.{_≡_, refl, sym, subst, _∙_}
 use mathlib.Core.Logic.{inl, inr}
-use mathlib.Core.List.{List, [], _∷_, _++_, map, cons≢nil, Memᴰ·map, Memᴰ·of-map}
+use mathlib.Core.List.{List, [], _++_, Memᴰ·map, Memᴰ·of-map}
 use Rattle.definitions.specs.Lists.{_∈_}
 use Rattle.definitions.specs.Words.{Atom, Literal, Clause, Rule, Problem, goalAtoms}
 use Rattle.definitions.specs.Instances.{ground, variables, Instance, fill, Task, taskOf, FillingOf}
-use Rattle.definitions.specs.Meaning.{Assignment, Choice, Makes, Closure, chosen, derived, bothSigns, falseBody, Fails, SatisfiesClause, SatisfiesFilling, Satisfies}
+use Rattle.definitions.specs.Meaning.{Assignment, Choice, Makes, Closure, chosen, derived, bothSigns, falseBody, Fails, SatisfiesClauses, SatisfiesFilling, Satisfies}
 use Rattle.definitions.specs.Search.{State, done, searchTask, search}
 use Rattle.definitions.specs.Verdicts.{setting}
 use Rattle.definitions.specs.declared.Verdict.the-variants.{Unsat, Unknown}
+use Rattle.theory.specs.ListLaws.{map-nil}
 use Rattle.theory.specs.WordLaws.{makes-not-both, goal-of, goal-from}
 use Rattle.theory.specs.PlaceLaws.{getElem-at}
 use Rattle.theory.specs.InstanceLaws.{substitutions-more, Renumbered, every-filling, only-fillings, filled-rule, filled-heads, filled-body}
@@ -49,7 +50,7 @@ module _ (k m : Task) (among : Among k m) (σ : Choice) where
 
 -- an assignment makes the heads of an instance only with its body, which then isn't false
 pub record Respects (v : Assignment) (k : Task) : Type 0 where
-  pub clauses : (c : Clause) → c ∈ k .clauses → SatisfiesClause v c
+  pub clauses : SatisfiesClauses v (k .clauses)
   pub instances : (i : Instance) → i ∈ k .instances → ((h : Literal) → h ∈ i .heads → Makes v h)
       → (i .body ≡ [] → ⊥) × ((l : Literal) → l ∈ i .body → Makes v l)
 
@@ -104,10 +105,6 @@ includes-among p q w =
             body = sym (filled-body f);
           };
     }
-
-map-nil : {A B : Type 0} (g : A → B) (l : List A) → map g l ≡ [] → l ≡ []
-map-nil g [] e = refl
-map-nil g (x ∷ xs) e = absurd (cons≢nil e)
 
 -- an assignment that satisfies every filling, two-way rules as equivalences, respects every instance
 pub satisfies-respects : (v : Assignment) (p : Problem) → FromLines p → Satisfies v p → Respects v (taskOf p)

@@ -4,7 +4,7 @@ use mathlib.Core.Path.{_≡_, refl, sym, ap, subst}
 use mathlib.Core.Logic.{_⊎_, inl, inr}
 use mathlib.Core.Bool.{Bool, true, false, _||_}
 use mathlib.Core.Option.{Option, none, some}
-use mathlib.Core.List.{List, [], _∷_, _++_, List·Memᴰ·head, List·Memᴰ·tail, List·Memᴰ·cases-cons, List·Memᴰ·append-cases, List·Memᴰ·not-nil, Memᴰ·append-left, Memᴰ·append-right, Memᴰ·cast, head-eq-of-cons-eq, tail-eq-of-cons-eq}
+use mathlib.Core.List.{List, [], _∷_, _++_, map, cons≢nil, List·Memᴰ·head, List·Memᴰ·tail, List·Memᴰ·cases-cons, List·Memᴰ·append-cases, List·Memᴰ·not-nil, Memᴰ·append-left, Memᴰ·append-right, Memᴰ·cast, head-eq-of-cons-eq, tail-eq-of-cons-eq}
 use native.Mathlib.Omega.{arith}
 use lib.ListN.{length, length-append}
 use Rattle.definitions.specs.Lists.{_∈_, isEmpty, any, all, filter, find, firstSome, joined}
@@ -16,6 +16,16 @@ at-split pre post = Memᴰ·append-right pre (List·Memᴰ·head refl)
 
 pub in-along : {A : Type 0} {x : A} {l k : List A} → l ≡ k → x ∈ k → x ∈ l
 in-along {x = x} e m = subst (λ l. x ∈ l) (sym e) m
+
+-- what maps to nothing is nothing
+pub map-nil : {A B : Type 0} (g : A → B) (l : List A) → map g l ≡ [] → l ≡ []
+map-nil g [] e = refl
+map-nil g (x ∷ xs) e = absurd (cons≢nil e)
+
+-- functions that agree on the elements
+pub map-alike : {A B : Type 0} (f g : A → B) (xs : List A) → ((x : A) → x ∈ xs → f x ≡ g x) → map f xs ≡ map g xs
+map-alike f g [] h = refl
+map-alike f g (x ∷ xs) h = cc (h x (List·Memᴰ·head refl), map-alike f g xs (λ y m. h y (List·Memᴰ·tail m)))
 
 -- where a list has its element
 pub record Split {A : Type 0} (x : A) (l : List A) : Type 0 where

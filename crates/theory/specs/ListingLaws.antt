@@ -15,7 +15,7 @@ use Rattle.definitions.specs.Lists.{_∈_, joined, filter, listOf, Lists·all}
 use Rattle.definitions.specs.Words.{Atom, Literal, negate, plain, sameLiteral}
 use Rattle.definitions.specs.Sheet.{Number, plus, number, decimal, Sheet·all}
 use Rattle.definitions.specs.Search.{State, Logged, clauseOf, isTrue}
-use Rattle.definitions.specs.Listing.{Field, decimals, signedDecimals, rightJustified, fieldBytes, lineBytes, narrow, wide, answerNumber, countLine, literalNumbers, loggedLine, setLine, setLiteral, settings, listingLines, listing, Listing·all}
+use Rattle.definitions.specs.Listing.{Field, decimals, signedDecimals, rightJustified, fieldBytes, lineBytes, narrow, wide, answerNumber, countLine, literalNumbers, loggedRow, loggedLine, setLine, setLiteral, settings, listingLines, listing, Listing·all}
 use Rattle.definitions.specs.declared.Verdict.{Verdict}
 use Rattle.definitions.specs.declared.Verdict.the-variants.{Unsat, Unknown, Spent, Full}
 use Rattle.theory.specs.Tests.{by-test}
@@ -54,7 +54,8 @@ signed-length f h =
     (λ e. let room : digitRoom f ≡ f .width - 1 = cc in rw (e, signedDecimals) (omega (arith, room, digits, h .someDigit)))
     (λ e. let room : digitRoom f ≡ f .width = cc in rw (e, signedDecimals) (omega (arith, room, digits)))
 
-field-fits-length : (f : Field) → FieldFits f → length (fieldBytes f) ≡ f .width
+-- a number that fits takes its column
+pub field-fits-length : (f : Field) → FieldFits f → length (fieldBytes f) ≡ f .width
 unfolding fieldBytes rightJustified
 field-fits-length f h =
     let bytes = signedDecimals (f .width) (f .number) in
@@ -110,7 +111,8 @@ pub record Listable (s : State) : Type 0 where
 
 -- ── every number fits ──
 
-plus-fits : (n : ℕ) → n < 10000 → FieldFits (narrow (plus n))
+-- a natural number of at most four digits fits a column
+pub plus-fits : (n : ℕ) → n < 10000 → FieldFits (narrow (plus n))
 unfolding narrow plus digitRoom
 plus-fits n h = record { someDigit = omega arith; size = h }
 
@@ -124,7 +126,7 @@ symbol-fits true n h = record { someDigit = omega arith; size = h }
 symbol-fits false n h = record { someDigit = omega arith; size = omega arith }
 
 -- each of these columns fits
-abbrev Fit : List Field → Type 0
+abbrev pub Fit : List Field → Type 0
 Fit fs = Each FieldFits fs
 
 literal-fit : (l : Literal) → AtomListable (l .atom) → Fit (map narrow (literalNumbers l))
@@ -172,8 +174,9 @@ clause-length g =
     let both = length-append heads taken in
     omega (arith, distinct-length sameLiteral (heads ++ taken), both, length-map (g .instance .heads) negate, taken-length (g .taken))
 
-logged-fit : (g : Logged) → LoggedListable g → Fit (loggedLine g)
-unfolding loggedLine
+-- each number of a logged clause's line fits its column
+pub logged-fit : (g : Logged) → LoggedListable g → Fit (loggedLine g)
+unfolding loggedLine loggedRow
 logged-fit g h =
     each-cons FieldFits (plus-fits 6 (omega arith)) (
     each-cons FieldFits (plus-fits (g .instance .rule) (h .rule)) (
@@ -226,10 +229,10 @@ count-length v s h = line-length (countLine v s) (count-fit v s h)
 
 -- a rule number, a count, and at most 4 literals with at most 4 numbers each
 logged-length : (g : Logged) → LoggedListable g → length (lineBytes (loggedLine g)) ≤ 77
-unfolding loggedLine
+unfolding loggedLine loggedRow
 logged-length g h =
     let numbers = joined literalNumbers (clauseOf g) in
-    let columns = narrow-width (plus 6 ∷ plus (g .instance .rule) ∷ plus (length (clauseOf g)) ∷ numbers) in
+    let columns = narrow-width (loggedRow g) in
     let few = joined-length literalNumbers 4 (clauseOf g) (λ l m. literal-length l (h .literal l m)) in
     omega (arith, line-length (loggedLine g) (logged-fit g h), columns, few, clause-length g, h .heads)
 

@@ -10,8 +10,8 @@ use lib.ListN.{length}
 use Rattle.definitions.specs.Lists.{_∈_, any, filter, firstSome}
 use Rattle.definitions.specs.Words.{Literal, Clause, Problem}
 use Rattle.definitions.specs.Instances.{Task, taskOf}
-use Rattle.definitions.specs.Search.{Trail, isTrue, isFalse, isUnset, Logged, clauseOf, State, start, Outcome, more, done, cameTo, run, notFalse, actOn, goalAct, loggedAct, nextAct}
-use Rattle.definitions.specs.ClauseNumbers.{clauseNumbers, mayAct, nextActAmong, clausesOf}
+use Rattle.definitions.specs.Search.{Trail, isTrue, isFalse, isUnset, Logged, clauseOf, State, clausesOf, start, Outcome, more, done, cameTo, run, notFalse, actOn, goalAct, loggedAct, nextAct}
+use Rattle.definitions.specs.ClauseNumbers.{clauseNumbers, mayAct, nextActAmong}
 use Rattle.theory.specs.Tests.{by-test, by-option, apart}
 use Rattle.theory.specs.ListLaws.{any-some, firstSome-filter, Each, each-append}
 use Rattle.theory.specs.WordLaws.{goal-of}

@@ -12,11 +12,11 @@ use borrow.Author.Tests.{eqb-true, eqb-false, leb-true}
 use Rattle.definitions.specs.Lists.{_∈_, isEmpty, filter, joined}
 use Rattle.definitions.specs.Words.{Rule, TwoWay, RuleLine, oneWay, twoWay, Clause, Problem, goalAtoms}
 use Rattle.definitions.specs.Sheet.{Line, lines, Number}
-use Rattle.definitions.specs.Questions.{Asked, yes, Parsed, count, rank, kindOf, ways, counted, constantsAsked, arityAsked, ruleCounts, ruleAsked, twoWayCounts, twoWayAsked, clauseCount, clauseAsked, withConstants, withSymbol, withLine, withClause, constantsLine, symbolLine, ruleLine, twoWayLine, clauseLine, lineOfKind, goodLength, columnsAsked, Draft, readLine, accepted, readLines, emptyDraft, read}
+use Rattle.definitions.specs.Questions.{Asked, yes, Parsed, count, rank, kindOf, ways, counted, constantsAsked, arityAsked, ruleCounts, ruleAsked, twoWayCounts, twoWayAsked, clauseCount, readClause, clauseAsked, withConstants, withSymbol, withLine, withClause, constantsLine, symbolLine, ruleLine, twoWayLine, clauseLine, lineOfKind, goodLength, columnsAsked, Draft, readLine, accepted, readLines, emptyDraft, read}
 use Rattle.definitions.specs.Sheets.{Row, filled, rowOf, isKind, ofKind, firstSize, constantsOf}
 use Rattle.theory.specs.Tests.{by-test, apart, and-left, and-right}
 use Rattle.theory.specs.ListLaws.{in-along}
-use Rattle.theory.specs.AskedLaws.{yes-injective, by-asked, rank-8, early-kind, accepted-read, bind-yes, ask-yes, yes-bind, count-yes, readRule, readTwoWay, isRuleRow, readRuleLine, readClause}
+use Rattle.theory.specs.AskedLaws.{yes-injective, by-asked, rank-8, early-kind, accepted-read, bind-yes, ask-yes, yes-bind, count-yes, readRule, readTwoWay, isRuleRow, readRuleLine}
 
 -- ── a line of each kind, from its columns behind the kind ──
 
