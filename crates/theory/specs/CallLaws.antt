@@ -19,6 +19,9 @@ use Rattle.theory.specs.Tests.{by-test, apart}
 use Rattle.theory.specs.ListingLaws.{listed-answer}
 use Rattle.theory.specs.Theorems.{search-comes-to-an-answer}
 
+pub accepted-injective : {p q : Problem} → accepted p ≡ accepted q → p ≡ q
+accepted-injective e = cc
+
 -- the questions about what is lent
 pub short-room : (room : ℕ) → room < roomBytes → firstShort (lendings room) ≡ some 1
 unfolding lendings firstShort
@@ -90,6 +93,3 @@ module _ (sheet : List ℕ) (budget : ℕ) (room : List ℕ) where
   -- a sheet says one problem, whose search that is
   pub its-search : (p : Problem) → read sheet ≡ accepted p → (v : Verdict) (f : FromSearch sheet budget room v) → search p budget ≡ done v (f .state)
   its-search p reads v f = let same : p ≡ f .problem = accepted-injective (sym reads ∙ f .reads) in ap (λ (q : Problem). search q budget) same ∙ f .comes
-    where
-      accepted-injective : {q r : Problem} → accepted q ≡ accepted r → q ≡ r
-      accepted-injective e = cc

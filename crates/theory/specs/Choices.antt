@@ -5,10 +5,10 @@ use mathlib.Core.Path.{_≡_, sym, subst}
 use mathlib.Core.Logic.{_⊎_, inl, inr}
 use mathlib.Core.Option.{some}
 use Rattle.definitions.specs.Lists.{_∈_}
-use Rattle.definitions.specs.Words.{Literal, negate, Clause, goalAtoms}
-use Rattle.definitions.specs.Instances.{Instance, Task}
+use Rattle.definitions.specs.Words.{Literal, negate, Clause, Problem, goalAtoms}
+use Rattle.definitions.specs.Instances.{Instance, Task, taskOf}
 use Rattle.definitions.specs.Meaning.{Choice, Makes, Closure, chosen, derived, bothSigns, falseBody, Fails}
-use Rattle.definitions.specs.Search.{Logged, clauseOf, State, Act, nextAct, Outcome, done, searchTask}
+use Rattle.definitions.specs.Search.{Logged, clauseOf, State, Act, nextAct, Outcome, done, searchTask, search}
 use Rattle.definitions.specs.declared.Verdict.{Verdict}
 use Rattle.definitions.specs.declared.Verdict.the-variants.{Unsat}
 use Rattle.theory.specs.Tests.{by-option}
@@ -17,7 +17,7 @@ use Rattle.theory.specs.WordLaws.{negate-negate, negate-atom, makes-one,
 use Rattle.theory.specs.SearchLaws.{clause-head, clause-taken}
 use Rattle.theory.specs.Trail.{World, LogOk, Refutes, Laws, ActOk, act-ok}
 use Rattle.theory.specs.Steps.{Step, After}
-use Rattle.theory.specs.Answers.{Inv, InvTells, step-inv, search-inv}
+use Rattle.theory.specs.Answers.{LogsOk, Inv, InvTells, step-inv, search-inv}
 
 module _ (k : Task) where
   abbrev pub choiceWorld : World
@@ -85,3 +85,8 @@ module _ (k : Task) where
   -- UNSAT: every choice of the goal's atoms breaks a goal clause, or its closure has a clash
   pub unsat-means : (budget : ℕ) (s : State) → searchTask k budget ≡ done Unsat s → (σ : Choice) → Fails k σ
   unsat-means budget s e = search-tells budget Unsat s e .1
+
+-- where a search ends, each logged clause comes from an instance of the problem
+pub logged-ok : (p : Problem) (budget : ℕ) (v : Verdict) (s : State) → search p budget ≡ done v s → LogsOk (taskOf p) s
+unfolding search
+logged-ok p budget v s e = search-tells (taskOf p) budget v s e .0 .logOk

@@ -16,7 +16,8 @@ use Rattle.theory.specs.AskedLaws.{no≢yes, yes-injective, bind-yes, as
 
 -- ── digits ──
 
-digit-is : (d : ℕ) → d < 10 → isDigit (48 + d) ≡ true
+-- a digit's byte is one
+pub digit-is : (d : ℕ) → d < 10 → isDigit (48 + d) ≡ true
 unfolding isDigit
 digit-is d h = and-intro (leb 48 (48 + d)) (leb (48 + d) 57) (le-leb 48 (48 + d) (omega arith)) (le-leb (48 + d) 57 (omega arith))
 
@@ -172,7 +173,7 @@ decimal-exact q (b ∷ bs) f e =
     rw (← its) (rw first at (more-exact 2 0 (b - 48) bs (omega arith) low)))
 
 -- a number from 1 begins with a digit that isn't 0
-begins : (w n : ℕ) → 1 ≤ n → n < 10 ^ suc w → (b : ℕ) × (bs : List ℕ) × (decimals (suc w) n ≡ b ∷ bs) × (48 < b)
+pub begins : (w n : ℕ) → 1 ≤ n → n < 10 ^ suc w → (b : ℕ) × (bs : List ℕ) × (decimals (suc w) n ≡ b ∷ bs) × (48 < b)
 unfolding decimals
 begins zero n l h = (48 + n, [], units-text 0 n (omega arith), omega arith)
 begins (suc w) n l h =

@@ -8,13 +8,13 @@ use mathlib.Core.List.{List, [], _∷_, _++_, append-nil, List·Memᴰ·head, Li
 use native.Mathlib.Omega.{arith}
 use lib.Dec.{eqb, leb, ltb}
 use lib.ListN.{length, getD, length-append}
-use borrow.Author.Tests.{eqb-true, eqb-false, leb-true, ltb-true, eq-eqb, ne-eqb, not-true}
+use borrow.Author.Tests.{eqb-true, eqb-false, leb-true, le-leb, ltb-true, eq-eqb, ne-eqb, not-true}
 use Rattle.definitions.specs.Bounds.{mostRules, mostClauses}
 use Rattle.definitions.specs.Lists.{_∈_, isEmpty, distinct, joined}
 use Rattle.definitions.specs.Words.{Literal, Clause, Term, variable, constant, Pattern, Rule, TwoWay, forward, reverse, RuleLine, oneWay, twoWay, Problem, goalAtoms}
-use Rattle.definitions.specs.Sheet.{Line, putByte, lines, Number}
+use Rattle.definitions.specs.Sheet.{Line, putByte, lines, Number, plus}
 use Rattle.definitions.specs.Questions.{Asked, no, yes, _>>=_, _>>_, ask, Parsed, within, count, rank, kindOf, ruleArgument, clauseArgument, arguments, literal, literals, patternOf, literalOf, patterns, clauseLiterals, restricted, connected, hasReverse, standsFor, rulesOf, ways, countsAs, counted, constantsAsked, arityAsked, ruleCounts, ruleBehind, ruleAsked, twoWayCounts, twoWayBehind, twoWayAsked, clauseCount, clauseBehind, clauseAsked, withConstants, withSymbol, withLine, withClause, constantsLine, symbolLine, ruleLine, twoWayLine, clauseLine, lineOfKind, columnsAsked, Draft, readLine, accepted, readLines, emptyDraft, read}
-use Rattle.theory.specs.Tests.{by-test, apart, and-left, and-right}
+use Rattle.theory.specs.Tests.{by-test, apart, and-intro, and-left, and-right}
 use Rattle.theory.specs.TableLaws.{enterAll, enter-known, atomsOf, goal-atoms-more}
 use Rattle.theory.specs.AskedLaws.{by-asked, accepted-read, early-kind}
 use Rattle.theory.specs.ListLaws.{full-some, Each, each-nil, each-cons, each-append, joined-length, joined-append}
@@ -167,6 +167,10 @@ within-between low high n e =
     let atMost = leb (n .size) high in
     let both = and-left (natural && atLeast) atMost e in
     (leb-true low (n .size) (and-right natural atLeast both), leb-true (n .size) high (and-right (natural && atLeast) atMost e))
+
+pub within-plus : (low high n : ℕ) → Between low high n → within low high (plus n) ≡ true
+unfolding within plus
+within-plus low high n (l, h) = and-intro (leb low n) (leb n high) (le-leb low n l) (le-leb n high h)
 
 count-between : (q low high : ℕ) (ns : List Number) → Gives (λ w. Between low high (w .found)) (count q low high ns)
 unfolding count
