@@ -15,9 +15,11 @@ pub mod Dimacs
 pub mod Call
 pub mod Export
 pub mod Sheets
+pub mod Carried
 pub mod Trials
 pub mod Refusals
 pub mod WrongTurns
 pub mod TwoWayTrials
 pub mod KeepsTrials
 pub mod DimacsTrials
+pub mod CarriedTrials

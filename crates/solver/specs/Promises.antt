@@ -4,37 +4,44 @@
 -- stands what these three are: demand 1, demand 2 and demand 3. The words are those of documents 01 and 02, each defined in the crate
 -- `definitions`; where arrays are spoken of, the crate that has them says how they stand. What is taken from the theory are proofs.
 -- Assumes nothing.
-use Prim.Native.Nat.{ℕ, _%_, _≤_}
-use mathlib.Core.Path.{_≡_, refl, ap, _∙_}
+use Prim.Native.Nat.{ℕ, suc, _+_, _%_, _≤_, _<_}
+use mathlib.Core.Path.{_≡_, refl, ap, subst, _∙_}
 use mathlib.Core.Logic.{_⊎_}
 use mathlib.Core.Bool.{true, false, _||_}
 use mathlib.Core.List.{List, [], _++_, map}
-use lib.ListN.{length, take}
+use lib.ListN.{length, take, drop}
 use Rattle.definitions.specs.Lists.{_∈_, all, joined, distinct, upFrom}
 use Rattle.definitions.specs.Bounds.{sheetBytes, roomBytes, mostAtoms, mostExported, exportBytes}
 use Rattle.definitions.specs.Words.{Atom, Literal, sameLiteral, Clause, Rule, TwoWay, twoWay, Problem, goalAtoms}
 use Rattle.definitions.specs.Instances.{substitutions, Instance, Task, taskOf, FillingOf}
-use Rattle.definitions.specs.Meaning.{Choice, Fails, Assignment, SatisfiesClauses, SatisfiesRule, SatisfiesLine, Satisfies}
+use Rattle.definitions.specs.Meaning.{Choice, Fails, Assignment, SatisfiesClause, SatisfiesClauses, SatisfiesFilling, SatisfiesRule, SatisfiesLine, Satisfies}
 use Rattle.definitions.specs.Sheet.{Line, nothing, decimal}
-use Rattle.definitions.specs.Questions.{Asked, no, yes, columns, connected, hasReverse, standsFor, rulesOf, Draft, readLine, accepted, read}
+use Rattle.definitions.specs.Questions.{Asked, no, yes, columns, connected, hasReverse, standsFor, rulesOf, readClause, Draft, readLine, accepted, read}
 use Rattle.definitions.specs.Search.{Trail, isTrue, Logged, clauseOf, notFalse, actOn, isGoal, loggedAct, nextAct, State, clausesOf, start, done, cameTo, run, search}
 use Rattle.definitions.specs.LiteralTest.{literalTest, TellsApart}
 use Rattle.definitions.specs.ClauseNumbers.{clauseNumbers, mayAct, nextActAmong}
 use Rattle.definitions.specs.Verdicts.{FirstChoice, SpentWhen, FullWhen}
+use Rattle.definitions.specs.Text.{bytes}
 use Rattle.definitions.specs.Dimacs.{Cnf, cnfOf, headerLine, cnfText, readCnf, CnfLimits}
-use Rattle.definitions.specs.Call.{Lending, afterLending, call, roomAfter, Comes, FromSearch}
-use Rattle.definitions.specs.Export.{exportCall, exportText, roomAfterExport, exportAfter, ExportComes}
-use Rattle.definitions.specs.Sheets.{Accepted, Answers, Keeps, passes, FilledAlike, blankColumn, isBlank, HeadAmong, Shares, Apart}
+use Rattle.definitions.specs.Call.{Lending, afterLending, call, listedPart, roomAfter, printed, Comes, FromSearch}
+use Rattle.definitions.specs.Export.{exportCall, exportText, roomAfterExport, exportAfter, printedCnf, ExportComes}
+use Rattle.definitions.specs.Sheets.{Accepted, Answers, Row, ofKind, Keeps, passes, FilledAlike, blankColumn, isBlank, HeadAmong, Shares, Apart}
+use Rattle.definitions.specs.Carried.{clauseOn, Entailed, NumberAssignment, SatisfiesNumberClauses, Unsatisfiable}
 use Rattle.definitions.specs.declared.Verdict.{Verdict}
 use Rattle.definitions.specs.declared.Verdict.the-variants.{Unsat, Unknown, Spent, Full}
+use Rattle.definitions.specs.declared.Counts.{Counts}
+use Rattle.definitions.specs.declared.Answer.the-variants.{Answered}
 use Rattle.definitions.specs.TwoWayTrials.{freeSheet, freeProblem, free-read, bodyAlone, clauses-satisfied, rules-satisfied, equivalence-broken}
+use Rattle.definitions.specs.CarriedTrials.{bothSheet, bothProblem, both-read, bothState, both-ends, bothCounts, both-begins, two-logged, allBut, each-needed, firstRow, first-follows, first-listed, two-in-body, first-satisfied, filling-broken}
 use Rattle.theory.specs.Theorems.{unsat, unknown, spent, full}
 use Rattle.theory.specs.InstanceLaws.{substitution-complete, every-filling, only-fillings}
 use Rattle.theory.specs.SearchLaws.{clause-once, heads-once}
 use Rattle.theory.specs.CallLaws.{call-comes, answer-from-search, its-search}
 use Rattle.theory.specs.TruthLaws.{search-tells-apart}
 use Rattle.theory.specs.TwoWayLaws.{equivalence-rules, rules-equivalence, lines-rules}
-use Rattle.theory.specs.Limits.{accepted-from-lines}
+use Rattle.theory.specs.Limits.{accepted-limits, accepted-from-lines}
+use Rattle.theory.specs.Reading.{sheet-says}
+use Rattle.theory.specs.ListedClauses.{log-listed}
 use Rattle.theory.specs.NumberLaws.{search-asking}
 use Rattle.theory.specs.Demand3.{never-satisfied, never-unknown}
 use Rattle.theory.specs.Connected.{connected-heads, head-apart}
@@ -43,6 +50,7 @@ use Rattle.theory.specs.CnfReads.{cnf-round-trip, cnf-exact}
 use Rattle.theory.specs.CnfRefusals.{cnf-refusals, bad-header, good-header}
 use Rattle.theory.specs.Exports.{export-limits, export-size}
 use Rattle.theory.specs.ExportLaws.{export-comes, export-as-first-call, exported-read-back}
+use Rattle.theory.specs.CarriedLaws.{unsat-carried, exported-carried, printed-carried, table-decides, numbers-decide, listed-follows, printed-follows, satisfies-clauses, exported-refutes, printed-refutes, both-answered, both-export-answered}
 use Rattle.encoding.specs.Encoding.{literalWord, sizesOf}
 use Rattle.encoding.specs.Values.{Values, goalsSet, goalsTrue, literalValue}
 use Rattle.encoding.specs.Standing.{Valued, GoalWords}
@@ -120,6 +128,10 @@ module _ (sheet : List ℕ) (budget : ℕ) (room export : List ℕ) where
   pub request-2 : ExportComes sheet budget room export
   request-2 = export-comes sheet budget room export
 
+  -- The text as it stands in the export room then.
+  abbrev exported : List ℕ
+  exported = take (length (exportText sheet budget room export)) (exportAfter sheet budget room export)
+
   module _ (large : roomBytes ≤ length room) (wide : exportBytes ≤ length export) where
     -- It hands back the record and leaves the listing room as the first call does.
     pub request-2-first-call : (exportCall sheet budget room export ≡ call sheet budget room) × (roomAfterExport sheet budget room export ≡ roomAfter sheet budget room)
@@ -127,11 +139,11 @@ module _ (sheet : List ℕ) (budget : ℕ) (room export : List ℕ) where
 
     module _ (p : Problem) (reads : read sheet ≡ accepted p) (v : Verdict) (s : State) (ends : search p budget ≡ done v s) where
       -- Whatever the answer, reading what was exported gives back the goal clauses and then the log, repeated literals too.
-      pub request-2-read-back : readCnf (take (length (exportText sheet budget room export)) (exportAfter sheet budget room export)) ≡ yes (cnfOf (p .clauses) s)
+      pub request-2-read-back : readCnf exported ≡ yes (cnfOf (p .clauses) s)
       request-2-read-back = exported-read-back sheet budget room export large wide p reads v s ends
 
       -- So do the arrays that `read_cnf` hands back.
-      pub request-2-by-value : heldClauses (cnfRead (readCnf (take (length (exportText sheet budget room export)) (exportAfter sheet budget room export)))) ≡ cnfOf (p .clauses) s .clauses
+      pub request-2-by-value : heldClauses (cnfRead (readCnf exported)) ≡ cnfOf (p .clauses) s .clauses
       request-2-by-value = ap (λ (a : Asked Cnf). heldClauses (cnfRead a)) request-2-read-back ∙ cnf-held (cnfOf (p .clauses) s) (export-limits sheet p reads budget v s ends)
 
 -- The text always fits the room that question 15 asks for.
@@ -307,3 +319,92 @@ module _ (p : Problem) (sizes : Sizes) (rules : List ℕ) (m : Machine) (loaded 
 pub request-8-choice : (p : Problem) (budget steps : ℕ)
     → nextActAmong (λ (c : Clause). mayAct (clauseNumbers (reached p budget steps .trail) c)) (taskOf p) (reached p budget steps) ≡ nextAct (taskOf p) (reached p budget steps)
 request-8-choice p = search-asking (taskOf p)
+
+-- 9/14. Take any call on an accepted sheet.
+module _ (sheet : List ℕ) (budget : ℕ) (room : List ℕ) (p : Problem) (reads : read sheet ≡ accepted p) where
+  -- Where it answers UNSAT, no true/false assignment satisfies the goal clauses and the logged clauses together.
+  pub request-9 : Answers sheet budget room Unsat
+      → (f : FromSearch sheet budget room Unsat) × ((a : Assignment) → SatisfiesClauses a (clausesOf (p .clauses) (f .state)) → ⊥)
+  request-9 given = let f = demand-2 sheet budget room Unsat given in (f, unsat-carried p budget (f .state) (its-search sheet budget room p reads Unsat f))
+
+  -- The goal clauses are those on the sheet's lines of kind 4, from the top.
+  pub request-9-goals : map (λ (row : Row). readClause (p .constants) (p .arities) (drop 1 row)) (ofKind 4 sheet) ≡ map yes (p .clauses)
+  request-9-goals = sheet-says sheet p reads .clauses
+
+  -- Whatever it answers, from whatever state of the search (`demand-2`),
+  module _ (v : Verdict) (f : FromSearch sheet budget room v) where
+    abbrev ends : search p budget ≡ done v (f .state)
+    ends = its-search sheet budget room p reads v f
+
+    -- the logged clauses are those on the listing's lines of kind 6, from the top.
+    pub request-9-listed : map (clauseOn p) (ofKind 6 (listedPart sheet budget room)) ≡ map (λ (g : Logged). yes (clauseOf g)) (f .state .log)
+    request-9-listed = rw (f .answer .part) (log-listed p (accepted-limits sheet p reads) budget v (f .state) ends)
+
+    -- What an assignment says of atoms that are not in the table is never asked,
+    pub request-9-table : (a b : Assignment) → ((x : Atom) → x ∈ f .state .table → a x ≡ b x)
+        → SatisfiesClauses a (clausesOf (p .clauses) (f .state)) → SatisfiesClauses b (clausesOf (p .clauses) (f .state))
+    request-9-table = table-decides sheet p reads budget v (f .state) ends
+
+    -- and whatever satisfies the sheet satisfies all the clauses.
+    pub request-9-sheet : (a : Assignment) → Satisfies a p → SatisfiesClauses a (clausesOf (p .clauses) (f .state))
+    request-9-sheet = satisfies-clauses sheet p reads budget v (f .state) ends
+
+  -- Each logged clause follows from one filling of the rule whose number stands on its line, in the listing that is handed back
+  pub request-9-follows : (row : Row) → row ∈ ofKind 6 (listedPart sheet budget room) → Entailed p row
+  request-9-follows row = listed-follows sheet p reads budget row room
+
+  -- and in the one that the program prints.
+  pub request-9-follows-printed : (row : Row) → row ∈ ofKind 6 (printed sheet budget) → Entailed p row
+  request-9-follows-printed = printed-follows sheet p reads budget
+
+-- For the one who has the text alone. Where the record of an export says UNSAT,
+module _ (sheet : List ℕ) (budget : ℕ) (room export : List ℕ) (c : Counts) (answered : exportCall sheet budget room export ≡ Answered c) (says : c .verdict ≡ Unsat) where
+  -- the text is read, and no true/false assignment of the numbers from 1 to the header's atoms satisfies the clauses that are read back,
+  pub request-9-text : Unsatisfiable (exported sheet budget room export)
+  request-9-text = exported-carried sheet budget room export c answered says
+
+  -- nor those in the arrays that `read_cnf` hands back.
+  pub request-9-by-value : (a : NumberAssignment) → SatisfiesNumberClauses a (heldClauses (cnfRead (readCnf (exported sheet budget room export)))) → ⊥
+  request-9-by-value =
+      let t = request-9-text in
+      let held = ap (λ (x : Asked Cnf). heldClauses (cnfRead x)) (t .reads) ∙ cnf-held (t .back) (cnf-exact (exported sheet budget room export) (t .back) (t .reads) .1) in
+      λ a h. t .none a (subst (SatisfiesNumberClauses a) held h)
+
+-- So it is with what the program prints, by the contracts of `print` and `print_cnf`: where the listing begins with UNSAT, the text for `cnf` is
+-- unsatisfiable.
+pub request-9-printed : (sheet : List ℕ) (budget : ℕ) → take 8 (printed sheet budget) ≡ bytes "   5   0" → Unsatisfiable (printedCnf sheet budget)
+request-9-printed = printed-carried
+
+-- What is said of numbers beyond the header's atoms is never asked, whatever the text.
+pub request-9-numbers : (text : List ℕ) (c : Cnf) → readCnf text ≡ yes c → (a b : NumberAssignment) → ((n : ℕ) → 1 ≤ n → n ≤ c .atoms → a n ≡ b n)
+    → SatisfiesNumberClauses a (c .clauses) → SatisfiesNumberClauses b (c .clauses)
+request-9-numbers text c reads = numbers-decide c (cnf-exact text c reads .1)
+
+-- And the other way, whatever the answer: where the text of an accepted sheet, exported or printed, is unsatisfiable, nothing satisfies the sheet.
+module _ (sheet : List ℕ) (p : Problem) (reads : read sheet ≡ accepted p) (budget : ℕ) where
+  pub request-9-refuted : (room export : List ℕ) → roomBytes ≤ length room → exportBytes ≤ length export
+      → Unsatisfiable (exported sheet budget room export) → (a : Assignment) → Satisfies a p → ⊥
+  request-9-refuted = exported-refutes sheet p reads budget
+
+  pub request-9-refuted-printed : Unsatisfiable (printedCnf sheet budget) → (a : Assignment) → Satisfies a p → ⊥
+  request-9-refuted-printed = printed-refutes sheet p reads budget
+
+-- What is supposed comes up: here is an accepted sheet that at this budget is answered UNSAT by every call with rooms large enough, and by the
+-- program. Every logged clause is needed there: without any one of the two the others and the goal clauses are satisfied.
+pub request-9-needed : (sheet : List ℕ) × (p : Problem) × (s : State) × (c : Counts) × (read sheet ≡ accepted p) × (search p 1000000 ≡ done Unsat s) × (c .verdict ≡ Unsat)
+    × ((room : List ℕ) → roomBytes ≤ length room → Answers sheet 1000000 room Unsat)
+    × ((room export : List ℕ) → roomBytes ≤ length room → exportBytes ≤ length export → exportCall sheet 1000000 room export ≡ Answered c)
+    × (take 8 (printed sheet 1000000) ≡ bytes "   5   0")
+    × (length (s .log) ≡ 2)
+    × ((n : ℕ) → n < length (s .log) → (a : Assignment) × SatisfiesClauses a (p .clauses ++ map clauseOf (take n (s .log) ++ drop (suc n) (s .log))))
+unfolding bothCounts
+request-9-needed =
+    (bothSheet, bothProblem, bothState, bothCounts, both-read, both-ends, refl, both-answered, both-export-answered, both-begins, two-logged, λ n h. (allBut (2 + n), each-needed n h))
+
+-- Nothing is promised the other way of a logged clause: here is one on the line of a rule with two body literals, with an assignment that
+-- satisfies it and not the filling that it follows from.
+pub request-9-not-back : (sheet : List ℕ) × (p : Problem) × (row : Row) × (h : Entailed p row) × (a : Assignment)
+    × (read sheet ≡ accepted p) × (row ∈ ofKind 6 (printed sheet 1000000)) × (length (h .rule .body) ≡ 2)
+    × SatisfiesClause a (h .clause) × (SatisfiesFilling a (h .rule) (h .filling) → ⊥)
+unfolding first-follows
+request-9-not-back = (bothSheet, bothProblem, firstRow, first-follows, allBut 3, both-read, first-listed, two-in-body, first-satisfied, filling-broken)

@@ -25,7 +25,9 @@ pub mod BlankColumns
 pub mod Sources
 pub mod Invariants
 pub mod ListingLaws
+pub mod ColumnsRead
 pub mod Sizes
+pub mod ListedClauses
 pub mod NumberLaws
 pub mod Theorems
 pub mod CallLaws
@@ -36,3 +38,4 @@ pub mod CnfReads
 pub mod CnfRefusals
 pub mod Exports
 pub mod ExportLaws
+pub mod CarriedLaws
