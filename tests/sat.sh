@@ -1,8 +1,9 @@
 #!/usr/bin/env bash
 # tests/sat.sh [PROGRAM [SOLVER]]: gives an ordinary SAT program what `PROGRAM cnf` (default target/bin/thunyaworm) prints for every
-# accepted sheet of tests/vectors and examples, and the texts stored for other budgets. It has to read each text, and where the listing
-# says UNSAT it has to say so too. The SAT program is SOLVER or the first of those below that is installed; without any the script says
-# so, counts nothing and ends with status 0.
+# accepted sheet of tests/vectors and examples, the texts stored for other budgets, and those of random sheets, 300 of them UNSAT, as
+# `brute/run --texts` writes them from the library. It has to read each text, and where the listing says UNSAT it has to say so too. The
+# SAT program is SOLVER or the first of those below that is installed; without any the script says so, counts nothing and ends with
+# status 0.
 # The last line ends with "N passed, M failed"; exit status 1 if one failed.
 set -u
 # Those that hold a text to the counts in its first line come first.
@@ -74,5 +75,15 @@ for budget in "$here"/vectors/*/export/*.budget; do
         check "$(basename "$(dirname "$budget")")/$(basename "$stored.cnf")" "$stored.listing" "$stored.cnf"
     fi
 done
+# A text that fails is written again by `brute/run --texts FOLDER`.
+if "$here/../brute/run" --texts "$work/random" > "$work/told" 2>&1; then
+    for text in "$work"/random/*.cnf; do
+        check "random/$(basename "$text")" "${text%.cnf}.listing" "$text"
+    done
+else
+    failed=$((failed + 1))
+    echo "brute/run --texts fails:"
+    cat "$work/told"
+fi
 echo "sat: by $solver, $passed passed, $failed failed"
 [ "$failed" -eq 0 ] && [ "$passed" -gt 0 ]

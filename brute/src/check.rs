@@ -1,11 +1,14 @@
 //! One sheet compared: what the reader, the search and the meaning expect against what the library's
-//! calls do; and its two-way rules against the rules that the search has for them.
+//! calls do; its two-way rules against the rules that the search has for them; and the logged clauses against their
+//! rules.
 
+use crate::carried::Carried;
 use crate::case::{printable, Case, InWords};
 use crate::dimacs::Cnf;
 use crate::ended::Ended;
 use crate::equivalence;
-use crate::export;
+use crate::export::{self, EXPORT};
+use crate::follows;
 use crate::interface::{self, Listed, Room, Solved};
 use crate::listing;
 use crate::meaning::{self, Meaning};
@@ -38,6 +41,7 @@ pub enum Same {
         events: Events,
         by_meaning: bool,
         two_ways: equivalence::Outcome,
+        carried: Carried,
     },
     TooLarge,
 }
@@ -70,8 +74,9 @@ pub fn check(case: &Case) -> Result<Same, Vec<String>> {
     }
     let (first, second) = interface::both_calls(case);
     let mut differences = Vec::new();
-    if let Some(length) = case.export {
-        compare_export(case, length, &expected, &mut differences);
+    let mut carried = Carried::default();
+    for length in export_rooms(case, &first) {
+        carried.add(&compare_export(case, length, &expected, &mut differences));
     }
     let same = match expected {
         Expected::Refused(refusal) => {
@@ -97,12 +102,17 @@ pub fn check(case: &Case) -> Result<Same, Vec<String>> {
                 differences.push(difference);
                 equivalence::Outcome::default()
             });
+            match follows::check(second.room.front(second.length), &problem) {
+                Ok(followed) => carried.add(&followed),
+                Err(difference) => differences.push(difference),
+            }
             Same::Ended {
                 problem,
                 ended,
                 events,
                 by_meaning,
                 two_ways,
+                carried,
             }
         }
         Expected::TooLarge => Same::TooLarge,
@@ -172,8 +182,23 @@ pub fn compare_room(call: &str, room: &Room, written: &[u8], differences: &mut V
     }
 }
 
+/// The lengths of the export rooms that are lent: the case's own, and for an UNSAT answer one that is large enough,
+/// since request 9 speaks of every such answer.
+fn export_rooms(case: &Case, first: &Solved) -> Vec<usize> {
+    let mut rooms: Vec<usize> = case.export.into_iter().collect();
+    if first.values.first() == Some(&0) && !rooms.iter().any(|&length| length >= EXPORT) {
+        rooms.push(EXPORT);
+    }
+    rooms
+}
+
 /// The export call with an export room of this length.
-fn compare_export(case: &Case, length: usize, expected: &Expected, differences: &mut Vec<String>) {
+fn compare_export(
+    case: &Case,
+    length: usize,
+    expected: &Expected,
+    differences: &mut Vec<String>,
+) -> Carried {
     let first = match expected {
         Expected::Refused(refusal) => Some(*refusal),
         _ => None,
@@ -181,7 +206,7 @@ fn compare_export(case: &Case, length: usize, expected: &Expected, differences: 
     match (export::refusal(first, length), expected) {
         (Some(refusal), _) => {
             let values = [refusal.number, refusal.line];
-            export::compare(case, length, &values, b"", None, differences);
+            export::compare(case, length, &values, b"", None, differences)
         }
         (
             None,
@@ -191,17 +216,15 @@ fn compare_export(case: &Case, length: usize, expected: &Expected, differences: 
                 cnf,
                 ..
             },
-        ) => {
-            export::compare(
-                case,
-                length,
-                &ended.values(),
-                listing,
-                Some(cnf),
-                differences,
-            );
-        }
-        _ => (),
+        ) => export::compare(
+            case,
+            length,
+            &ended.values(),
+            listing,
+            Some(cnf),
+            differences,
+        ),
+        _ => Carried::default(),
     }
 }
 
@@ -244,6 +267,8 @@ fn same_set(one: &[Literal], other: &[Literal]) -> bool {
 
 /// A case and both results in words, for the report of a difference.
 pub fn describe(case: &Case, differences: &[String]) -> String {
+    let (first, second) = interface::both_calls(case);
+    let rooms = export_rooms(case, &first);
     let mut text = case.in_words();
     text.push_str("expected, by the second implementation:\n");
     match expect(case) {
@@ -258,7 +283,7 @@ pub fn describe(case: &Case, differences: &[String]) -> String {
             ..
         } => {
             text.push_str(&printable(&listing));
-            if case.export.is_some() {
+            if !rooms.is_empty() {
                 text.push_str(&printable(&cnf.text()));
             }
             match meaning::decide(&problem) {
@@ -269,13 +294,12 @@ pub fn describe(case: &Case, differences: &[String]) -> String {
         }
         Expected::TooLarge => text.push_str("too large\n"),
     }
-    let (first, second) = interface::both_calls(case);
     text.push_str(&format!(
         "the library: values {:?}, listing of {} bytes:\n",
         first.values, second.length
     ));
     text.push_str(&printable(second.room.front(second.length)));
-    if let Some(length) = case.export {
+    for length in rooms {
         text.push_str(&export::describe(case, length));
     }
     text.push_str("differences:\n");

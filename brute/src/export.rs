@@ -1,5 +1,7 @@
-//! The export call compared: its record, both rooms, and the text, which both readers have to read back.
+//! The export call compared: its record, both rooms, and the text, which both readers have to read back and which has
+//! to be refuted where the record says UNSAT.
 
+use crate::carried::{self, Carried};
 use crate::case::{printable, Case};
 use crate::check::compare_room;
 use crate::dimacs::{self, Cnf};
@@ -24,7 +26,7 @@ pub fn refusal(first: Option<Refusal>, export: usize) -> Option<Refusal> {
 }
 
 /// The export against the expected values, the expected front of the listing room and the expected clauses;
-/// a refusal has none.
+/// a refusal has none. What came of request 9 is handed back.
 pub fn compare(
     case: &Case,
     length: usize,
@@ -32,7 +34,7 @@ pub fn compare(
     listing: &[u8],
     cnf: Option<&Cnf>,
     differences: &mut Vec<String>,
-) {
+) -> Carried {
     let exported = interface::export_call(case, length);
     let handed = exported.places.front(values.len());
     if handed != values {
@@ -51,9 +53,15 @@ pub fn compare(
         ));
     }
     compare_room("export", &exported.export, &text, differences);
-    if let Some(cnf) = cnf {
-        read_back(exported.export.front(exported.length), cnf, differences);
-    }
+    let Some(cnf) = cnf else {
+        return Carried::default();
+    };
+    let text = exported.export.front(exported.length);
+    read_back(text, cnf, differences);
+    carried::refute(text, handed[0] == 0, cnf).unwrap_or_else(|difference| {
+        differences.push(difference);
+        Carried::default()
+    })
 }
 
 /// A text of the library read back by the second implementation, and by the library just as by that one.

@@ -11,7 +11,8 @@ use crate::reader::{ROOM, SHEET};
 use crate::rows::{clause, negated, rule, text, Row};
 use crate::two_way;
 
-/// The share of sheets that are exported, in percent: the export searches once more.
+/// The share of sheets that are exported whatever the answer, in percent: the export searches once more. Those that are
+/// answered UNSAT all are.
 const EXPORTED: usize = 35;
 /// The share of sheets that get blank columns, in percent.
 const BLANKS: usize = 35;

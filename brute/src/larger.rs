@@ -2,6 +2,7 @@
 //! UNKNOWN, at whatever budget, and no assignment satisfies it.
 
 use crate::blanks;
+use crate::carried::Carried;
 use crate::case::Case;
 use crate::check::{check, Same};
 use crate::ended::Verdict;
@@ -26,6 +27,7 @@ pub struct Outcome {
     pub other_blanks: bool,
     /// A two-way rule stands at another place among the rules.
     pub two_way_moved: bool,
+    pub carried: Carried,
 }
 
 /// A sheet that keeps the given accepted one, with more besides, in another order and often with other blank
@@ -147,6 +149,10 @@ pub fn check_larger(
                     case,
                     vec!["demand 3: UNKNOWN, though the smaller sheet is UNSAT".into()],
                 ));
+            }
+            Ok(Same::Ended { carried, .. }) => {
+                outcome.calls += 1;
+                outcome.carried.add(&carried);
             }
             Ok(_) => outcome.calls += 1,
         }

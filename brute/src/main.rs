@@ -1,11 +1,15 @@
 //! brute [SEED [COUNT]]: random sheets, each decided from its meaning and by a second implementation
-//! of document 01's search, compared with the library's calls; and random texts for its reader of DIMACS CNF.
+//! of document 01's search, compared with the library's calls; and random texts for its reader of DIMACS CNF. The text
+//! of each UNSAT sheet is refuted by itself, and each logged clause has to follow from one filling of its rule.
 //! brute --vectors FOLDER: stored sheets with listings and exports, and stored texts, instead.
+//! brute --texts FOLDER [SEED [COUNT]]: writes random sheets with the library's listings and exported texts, so many
+//! of UNSAT sheets and some of others; nothing is compared.
 //!
 //! Nothing here is shared with the solver. The last line tells the differences; exit status 1 if there
 //! are any, if a long run never met an answer or a refusal that can come up, or if a call hangs.
 
 mod blanks;
+mod carried;
 mod case;
 mod check;
 mod damage;
@@ -13,6 +17,8 @@ mod dimacs;
 mod ended;
 mod equivalence;
 mod export;
+mod exports;
+mod follows;
 mod generate;
 mod interface;
 mod larger;
@@ -24,6 +30,7 @@ mod problem;
 mod random;
 mod reader;
 mod reading;
+mod refute;
 mod rows;
 mod search;
 mod shrink;
@@ -41,6 +48,7 @@ use ended::Verdict;
 use interface::{THUNYAWORM_EXPORT, THUNYAWORM_ROOM};
 use random::Random;
 use reader::SHEET;
+use std::io;
 use std::path::Path;
 use std::process::ExitCode;
 use std::time::{Duration, Instant};
@@ -49,6 +57,8 @@ use tally::Tally;
 const SEED: u64 = 20_230_517;
 /// About 40 seconds.
 const COUNT: u64 = 90_000;
+/// The texts of UNSAT sheets that are written for a SAT program.
+const UNSAT_TEXTS: u64 = 300;
 /// The share of sheets with which a text comes, in percent; the texts' random numbers have another seed.
 const TEXTS: usize = 50;
 const TEXT_SEED: u64 = 0x7465_7874;
@@ -79,26 +89,41 @@ fn run() -> bool {
         .collect::<Vec<_>>()
         .as_slice()
     {
-        ["--vectors", folder] => vectors::run(Path::new(folder)).unwrap_or_else(|error| {
-            eprintln!("brute: {error}");
-            false
-        }),
-        [] => random_sheets(SEED, COUNT),
-        [seed] => with_numbers(seed, &COUNT.to_string()),
-        [seed, count] => with_numbers(seed, count),
-        _ => usage(),
+        ["--vectors", folder] => or_error(vectors::run(Path::new(folder))),
+        ["--texts", folder, numbers @ ..] => match seed_and_count(numbers, UNSAT_TEXTS) {
+            Some((seed, count)) => {
+                or_error(exports::write(Path::new(folder), seed, count).map(|()| true))
+            }
+            None => usage(),
+        },
+        numbers => match seed_and_count(numbers, COUNT) {
+            Some((seed, count)) => random_sheets(seed, count),
+            None => usage(),
+        },
     }
 }
 
-fn with_numbers(seed: &str, count: &str) -> bool {
-    match (seed.parse(), count.parse()) {
-        (Ok(seed), Ok(count)) => random_sheets(seed, count),
-        _ => usage(),
+fn or_error(result: io::Result<bool>) -> bool {
+    result.unwrap_or_else(|error| {
+        eprintln!("brute: {error}");
+        false
+    })
+}
+
+/// What the last words say; where they say nothing, the seed is a fixed one, and the count this.
+fn seed_and_count(words: &[&str], count: u64) -> Option<(u64, u64)> {
+    match words {
+        [] => Some((SEED, count)),
+        [seed] => Some((seed.parse().ok()?, count)),
+        [seed, count] => Some((seed.parse().ok()?, count.parse().ok()?)),
+        _ => None,
     }
 }
 
 fn usage() -> bool {
-    eprintln!("usage: brute [SEED [COUNT]] | brute --vectors FOLDER");
+    eprintln!(
+        "usage: brute [SEED [COUNT]] | brute --vectors FOLDER | brute --texts FOLDER [SEED [COUNT]]"
+    );
     false
 }
 

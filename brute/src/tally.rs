@@ -1,5 +1,6 @@
 //! How often each answer, each refusal and each event of the search came up, and what came of texts.
 
+use crate::carried::Carried;
 use crate::case::Case;
 use crate::check::Same;
 use crate::equivalence;
@@ -27,6 +28,7 @@ pub struct Tally {
     events: Events,
     met: Met,
     two_ways: equivalence::Outcome,
+    carried: Carried,
     /// Sheets that no call told from one with other blank columns.
     pub alike: u64,
     larger_sheets: u64,
@@ -56,6 +58,7 @@ impl Tally {
                 events: new,
                 by_meaning,
                 two_ways,
+                carried,
             } => {
                 self.answers[ended.verdict as usize] += 1;
                 self.met.count_answered(&case.sheet);
@@ -63,6 +66,7 @@ impl Tally {
                 self.met.two_way.count_answered(problem, ended);
                 self.two_ways.tried += two_ways.tried;
                 self.two_ways.says_more += two_ways.says_more;
+                self.carried.add(carried);
                 self.by_meaning += u64::from(*by_meaning);
                 let sum = &mut self.events;
                 sum.backwards += new.backwards;
@@ -101,6 +105,7 @@ impl Tally {
     pub fn count_larger(&mut self, outcome: &larger::Outcome) {
         self.larger_sheets += 1;
         self.larger_calls += outcome.calls;
+        self.carried.add(&outcome.carried);
         self.enumerated += u64::from(outcome.enumerated);
         self.larger_other_blanks += u64::from(outcome.other_blanks);
         self.larger_two_way_moved += u64::from(outcome.two_way_moved);
@@ -159,6 +164,8 @@ impl Tally {
         ] {
             all.push((name.to_string(), count));
         }
+        let carried = self.carried.named().into_iter();
+        all.extend(carried.map(|(name, count)| (name.to_string(), count)));
         all
     }
 
@@ -171,6 +178,10 @@ impl Tally {
         println!(
             "{:>9} left out as too large for the second implementation",
             self.too_large
+        );
+        println!(
+            "{:>9} UNSAT texts too large to refute",
+            self.carried.too_large
         );
         for (name, count) in self.named() {
             println!("{count:>9} {name}");

@@ -1,6 +1,7 @@
 //! Stored sheets with the listings that the program prints for them, some with a budget and the exported text,
 //! and stored texts with what is read from them: the second implementation, and then the library, against each.
 
+use crate::carried::Carried;
 use crate::case::Case;
 use crate::check::{check, Same};
 use crate::export::EXPORT;
@@ -16,6 +17,7 @@ use std::path::Path;
 struct Counts {
     passed: u64,
     failed: u64,
+    carried: Carried,
 }
 
 impl Counts {
@@ -36,7 +38,15 @@ impl Counts {
 pub fn run(folder: &Path) -> io::Result<bool> {
     let mut counts = Counts::default();
     all_in(folder, &mut counts)?;
-    let Counts { passed, failed } = counts;
+    let Counts {
+        passed,
+        failed,
+        carried,
+    } = counts;
+    println!(
+        "{:>9} UNSAT texts refuted, {} logged clauses that follow from one filling",
+        carried.refuted, carried.followed
+    );
     println!("vectors: {passed} passed, {failed} failed");
     if passed + failed == 0 {
         eprintln!("brute: no sheet and no answer in {}", folder.display());
@@ -47,7 +57,8 @@ pub fn run(folder: &Path) -> io::Result<bool> {
 fn all_in(folder: &Path, counts: &mut Counts) -> io::Result<()> {
     for path in files(folder, "sheet")? {
         watch::from(path.display().to_string());
-        counts.count(&path, &sheet_faults(&path)?);
+        let faults = sheet_faults(&path, &mut counts.carried)?;
+        counts.count(&path, &faults);
     }
     for path in files(folder, "answer")? {
         watch::from(path.display().to_string());
@@ -60,7 +71,7 @@ fn all_in(folder: &Path, counts: &mut Counts) -> io::Result<()> {
 }
 
 /// A sheet with its listing and, where there is one, its exported text.
-fn sheet_faults(path: &Path) -> io::Result<Vec<String>> {
+fn sheet_faults(path: &Path, carried: &mut Carried) -> io::Result<Vec<String>> {
     let case = Case {
         sheet: fs::read(path)?,
         budget: budget(path)?,
@@ -77,7 +88,13 @@ fn sheet_faults(path: &Path) -> io::Result<Vec<String>> {
     }
     match check(&case) {
         Ok(Same::TooLarge) => faults.push("too large for the second implementation".into()),
-        Ok(_) => (),
+        Ok(Same::Ended { carried: new, .. }) => {
+            if new.too_large > 0 {
+                faults.push("too large to refute".into());
+            }
+            carried.add(&new);
+        }
+        Ok(Same::Refused(_)) => (),
         Err(differences) => faults.extend(differences),
     }
     Ok(faults)
