@@ -11,8 +11,8 @@ use Rattle.definitions.specs.Words.{Problem}
 use Rattle.definitions.specs.Sheet.{number, plus, decimal}
 use Rattle.definitions.specs.Questions.{Reading, refused, accepted, read}
 use Rattle.definitions.specs.Search.{State, done, search}
-use Rattle.definitions.specs.Listing.{answerNumber}
-use Rattle.definitions.specs.Call.{Result, refusal, ended, searched, answered, lendings, firstShort, afterLending, result, answerOf, listingOf, written, call, listedPart, roomAfter, RefusedWith, AnsweredWith, Comes, tooSmall, improper, proper, FromSearch}
+use Rattle.definitions.specs.Listing.{answerNumber, listing}
+use Rattle.definitions.specs.Call.{Result, refusal, ended, searched, answered, lendings, firstShort, afterLending, result, answerOf, listingOf, written, call, listedPart, roomAfter, printedOf, printed, RefusedWith, AnsweredWith, Comes, tooSmall, improper, proper, FromSearch}
 use Rattle.definitions.specs.Sheets.{Answers, handsBack, lists}
 use Rattle.definitions.specs.declared.Verdict.{Verdict}
 use Rattle.theory.specs.Tests.{by-test, apart}
@@ -93,3 +93,10 @@ module _ (sheet : List ℕ) (budget : ℕ) (room : List ℕ) where
   -- a sheet says one problem, whose search that is
   pub its-search : (p : Problem) → read sheet ≡ accepted p → (v : Verdict) (f : FromSearch sheet budget room v) → search p budget ≡ done v (f .state)
   its-search p reads v f = let same : p ≡ f .problem = accepted-injective (sym reads ∙ f .reads) in ap (λ (q : Problem). search q budget) same ∙ f .comes
+
+-- ── what the program prints ──
+
+pub printed-listing : (sheet : List ℕ) (p : Problem) → read sheet ≡ accepted p → (budget : ℕ) (v : Verdict) (s : State) → search p budget ≡ done v s
+    → printed sheet budget ≡ listing v s
+unfolding printed printedOf answered searched listingOf
+printed-listing sheet p reads budget v s e = rw (reads, e) refl

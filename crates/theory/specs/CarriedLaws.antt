@@ -18,9 +18,9 @@ use Rattle.definitions.specs.Questions.{yes, Reading, refused, accepted, read}
 use Rattle.definitions.specs.Search.{Logged, clauseOf, State, clausesOf, done, searchTask, search}
 use Rattle.definitions.specs.Listing.{loggedRow, listing, refusalLine, Listing·all}
 use Rattle.definitions.specs.Text.{bytes, Text·all}
-use Rattle.definitions.specs.Dimacs.{Cnf, tableNumber, cnfOf, cnfText, readCnf, CnfLimits}
-use Rattle.definitions.specs.Call.{searched, answered, answerOf, listingOf, call, listedPart, printedOf, printed, tooSmall, improper, proper}
-use Rattle.definitions.specs.Export.{exportOf, exportCall, exportText, exportAfter, printedCnf, roomTooSmall, exportTooSmall, improperSheet, properSheet}
+use Rattle.definitions.specs.Dimacs.{Cnf, tableNumber, cnfOf, readCnf, CnfLimits}
+use Rattle.definitions.specs.Call.{searched, answered, answerOf, call, listedPart, printedOf, printed, tooSmall, improper, proper}
+use Rattle.definitions.specs.Export.{exportCall, exportText, exportAfter, printedCnf, roomTooSmall, exportTooSmall, improperSheet, properSheet}
 use Rattle.definitions.specs.Sheets.{Answers, handsBack, Row, ofKind}
 use Rattle.definitions.specs.Carried.{Entailed, NumberAssignment, SatisfiesNumberClause, SatisfiesNumberClauses, Unsatisfiable}
 use Rattle.definitions.specs.CarriedTrials.{bothSheet, both-read, both-ends, bothCounts, both-counts}
@@ -44,9 +44,8 @@ use Rattle.theory.specs.Choices.{logged-ok}
 use Rattle.theory.specs.Invariants.{search-sound}
 use Rattle.theory.specs.NumberLaws.{clauses-short}
 use Rattle.theory.specs.Theorems.{search-comes-to-an-answer}
-use Rattle.theory.specs.Exports.{export-round-trip}
-use Rattle.theory.specs.CallLaws.{large-room, call-comes, accepted-injective}
-use Rattle.theory.specs.ExportLaws.{export-comes, export-as-first-call, exported-read-back}
+use Rattle.theory.specs.CallLaws.{large-room, call-comes, accepted-injective, printed-listing}
+use Rattle.theory.specs.ExportLaws.{export-comes, export-as-first-call, exported-read-back, printed-read-back}
 
 -- ── no assignment satisfies the goal clauses and the log ──
 
@@ -139,19 +138,6 @@ refusal-begins : (q n : ℕ) → take 8 (refusalLine q n) ≡ bytes "   5   0" �
 unfolding Text·all Lists·all Sheet·all Listing·all
 refusal-begins q n h = let z : _≡_ {A = ℕ} 57 53 = ap (λ (bs : List ℕ). getD bs 3 0) h in omega arith
 
--- what is printed for an accepted sheet
-module _ (sheet : List ℕ) (p : Problem) (reads : read sheet ≡ accepted p) (budget : ℕ) (v : Verdict) (s : State) (e : search p budget ≡ done v s) where
-  printed-listing : printed sheet budget ≡ listing v s
-  unfolding printed printedOf answered searched listingOf
-  printed-listing = rw (reads, e) refl
-
-  printed-text : printedCnf sheet budget ≡ cnfText (cnfOf (p .clauses) s)
-  unfolding printedCnf printedOf answered searched exportOf
-  printed-text = rw (reads, e) refl
-
-  printed-read-back : readCnf (printedCnf sheet budget) ≡ yes (cnfOf (p .clauses) s)
-  printed-read-back = ap readCnf printed-text ∙ export-round-trip sheet p reads budget v s e
-
 -- the text that the program prints where it lists UNSAT
 pub printed-carried : (sheet : List ℕ) (budget : ℕ) → take 8 (printed sheet budget) ≡ bytes "   5   0" → Unsatisfiable (printedCnf sheet budget)
 unfolding printed printedOf answered
@@ -199,6 +185,7 @@ module _ (p : Problem) (g : Logged) (ok : LogOk (taskOf p) g) where
   itsFilling : FillingOf p (g .instance)
   itsFilling = only-fillings p (g .instance) (ok .its)
 
+  -- a false head stands negated in the clause, and of a body that is true the literal that was taken
   filling-clause : (v : Assignment) → SatisfiesFilling v (itsFilling .rule) (itsFilling .filling) → SatisfiesClause v (clauseOf g)
   filling-clause v (headFalse x m n) =
       let h = ground (itsFilling .filling) x in
@@ -266,9 +253,10 @@ module _ (sheet : List ℕ) (p : Problem) (reads : read sheet ≡ accepted p) (b
       let rules = lines-rules a p (accepted-from-lines sheet p reads) (satisfies .lines) in
       subst (SatisfiesClause a) q (filling-clause p g ok a (rules (f .rule) (filled-rule f .1) (f .filling) (f .inside))))
 
-  numbers-satisfied-back : (a : Assignment) → SatisfiesClauses a (clausesOf (p .clauses) s) → SatisfiesNumberClauses (numbered (s .table) a) (cnfOf (p .clauses) s .clauses)
+  -- with the table's numbers for atoms
+  clauses-numbered : (a : Assignment) → SatisfiesClauses a (clausesOf (p .clauses) s) → SatisfiesNumberClauses (numbered (s .table) a) (cnfOf (p .clauses) s .clauses)
   unfolding cnfOf tableNumber
-  numbers-satisfied-back a h ns m =
+  clauses-numbered a h ns m =
       let (c, n, q) = Memᴰ·of-map (map (tableNumber (s .table))) (clausesOf (p .clauses) s) m in
       let w = h c n in
       let l = w .literal in
@@ -281,7 +269,7 @@ module _ (sheet : List ℕ) (p : Problem) (reads : read sheet ≡ accepted p) (b
   text-refutes : (text : List ℕ) → readCnf text ≡ yes (cnfOf (p .clauses) s) → Unsatisfiable text → (a : Assignment) → Satisfies a p → ⊥
   text-refutes text is t a satisfies =
       let same : cnfOf (p .clauses) s ≡ t .back = yes-injective (sym is ∙ t .reads) in
-      t .none (numbered (s .table) a) (rw (← same) (numbers-satisfied-back a (satisfies-clauses a satisfies)))
+      t .none (numbered (s .table) a) (rw (← same) (clauses-numbered a (satisfies-clauses a satisfies)))
 
 module _ (sheet : List ℕ) (p : Problem) (reads : read sheet ≡ accepted p) (budget : ℕ) where
   pub exported-refutes : (room export : List ℕ) → roomBytes ≤ length room → exportBytes ≤ length export

@@ -13,8 +13,8 @@ use Rattle.definitions.specs.Words.{Problem}
 use Rattle.definitions.specs.Questions.{yes, Reading, refused, accepted, read}
 use Rattle.definitions.specs.Search.{State, done, search}
 use Rattle.definitions.specs.Dimacs.{cnfOf, cnfText, readCnf}
-use Rattle.definitions.specs.Call.{Result, refusal, ended, searched, answered, lendings, firstShort, afterLending, result, answerOf, listingOf, written, call, roomAfter}
-use Rattle.definitions.specs.Export.{exportLendings, exportResult, exportOf, exportCall, exportText, roomAfterExport, exportAfter, ExportRefused, Exports, ExportComes, roomTooSmall, exportTooSmall, improperSheet, properSheet}
+use Rattle.definitions.specs.Call.{Result, refusal, ended, searched, answered, lendings, firstShort, afterLending, result, answerOf, listingOf, written, call, roomAfter, printedOf}
+use Rattle.definitions.specs.Export.{exportLendings, exportResult, exportOf, exportCall, exportText, roomAfterExport, exportAfter, printedCnf, ExportRefused, Exports, ExportComes, roomTooSmall, exportTooSmall, improperSheet, properSheet}
 use Rattle.definitions.specs.declared.Verdict.{Verdict}
 use Rattle.theory.specs.Tests.{by-test}
 use Rattle.theory.specs.Theorems.{search-comes-to-an-answer}
@@ -133,3 +133,13 @@ module _ (sheet : List ℕ) (budget : ℕ) (room export : List ℕ) where
       let text = exportText sheet budget room export in
       ap readCnf (take-append-seam text (drop (length text) export) ∙ text-of-answer p reads v s (result-of-search p reads large wide v s e))
       ∙ export-round-trip sheet p reads budget v s e
+
+-- ── so is the text that the program prints ──
+
+pub printed-read-back : (sheet : List ℕ) (p : Problem) → read sheet ≡ accepted p → (budget : ℕ) (v : Verdict) (s : State) → search p budget ≡ done v s
+    → readCnf (printedCnf sheet budget) ≡ yes (cnfOf (p .clauses) s)
+unfolding printedCnf printedOf answered searched exportOf
+printed-read-back sheet p reads budget v s e = ap readCnf printed-text ∙ export-round-trip sheet p reads budget v s e
+  where
+    printed-text : printedCnf sheet budget ≡ cnfText (cnfOf (p .clauses) s)
+    printed-text = rw (reads, e) refl
