@@ -31,7 +31,8 @@ size_t thunyaworm_listing(const uint8_t *sheet, size_t sheet_length, uint32_t bu
                           uint8_t *room, size_t room_length);
 
 /* The export call: leaves the room and fills the places as the first call does, and leaves the goal clauses and then the log as DIMACS
-   CNF at the front of the export room. Hands back how many bytes the text has, 0 for a refusal, which changes neither room.
+   CNF at the front of the export room; for UNSAT no assignment satisfies them. Hands back how many bytes the text has, 0 for a
+   refusal, which changes neither room.
    With fewer than five places nothing is done, and 0 is handed back. */
 size_t thunyaworm_export(const uint8_t *sheet, size_t sheet_length, uint32_t budget, uint8_t *room, size_t room_length,
                          uint8_t *export_room, size_t export_length, uint64_t *places, size_t places_length);

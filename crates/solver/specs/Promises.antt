@@ -327,20 +327,16 @@ module _ (sheet : List ℕ) (budget : ℕ) (room : List ℕ) (p : Problem) (read
       → (f : FromSearch sheet budget room Unsat) × ((a : Assignment) → SatisfiesClauses a (clausesOf (p .clauses) (f .state)) → ⊥)
   request-9 given = let f = demand-2 sheet budget room Unsat given in (f, unsat-carried p budget (f .state) (its-search sheet budget room p reads Unsat f))
 
-  -- The goal clauses are those on the sheet's lines of kind 4, from the top.
-  pub request-9-goals : map (λ (row : Row). readClause (p .constants) (p .arities) (drop 1 row)) (ofKind 4 sheet) ≡ map yes (p .clauses)
-  request-9-goals = sheet-says sheet p reads .clauses
-
-  -- Whatever it answers, from whatever state of the search (`demand-2`),
+  -- Whatever it answers, with the state of the search that this comes from (`demand-2`),
   module _ (v : Verdict) (f : FromSearch sheet budget room v) where
     abbrev ends : search p budget ≡ done v (f .state)
     ends = its-search sheet budget room p reads v f
 
-    -- the logged clauses are those on the listing's lines of kind 6, from the top.
+    -- the logged clauses are those on the listing's lines of kind 6, from the top;
     pub request-9-listed : map (clauseOn p) (ofKind 6 (listedPart sheet budget room)) ≡ map (λ (g : Logged). yes (clauseOf g)) (f .state .log)
     request-9-listed = rw (f .answer .part) (log-listed p (accepted-limits sheet p reads) budget v (f .state) ends)
 
-    -- What an assignment says of atoms that are not in the table is never asked,
+    -- what an assignment says of atoms that are not in the table is never asked;
     pub request-9-table : (a b : Assignment) → ((x : Atom) → x ∈ f .state .table → a x ≡ b x)
         → SatisfiesClauses a (clausesOf (p .clauses) (f .state)) → SatisfiesClauses b (clausesOf (p .clauses) (f .state))
     request-9-table = table-decides sheet p reads budget v (f .state) ends
@@ -356,6 +352,11 @@ module _ (sheet : List ℕ) (budget : ℕ) (room : List ℕ) (p : Problem) (read
   -- and in the one that the program prints.
   pub request-9-follows-printed : (row : Row) → row ∈ ofKind 6 (printed sheet budget) → Entailed p row
   request-9-follows-printed = printed-follows sheet p reads budget
+
+-- The goal clauses are those on the sheet's lines of kind 4, from the top.
+pub request-9-goals : (sheet : List ℕ) (p : Problem) → read sheet ≡ accepted p
+    → map (λ (row : Row). readClause (p .constants) (p .arities) (drop 1 row)) (ofKind 4 sheet) ≡ map yes (p .clauses)
+request-9-goals sheet p reads = sheet-says sheet p reads .clauses
 
 -- For the one who has the text alone. Where the record of an export says UNSAT,
 module _ (sheet : List ℕ) (budget : ℕ) (room export : List ℕ) (c : Counts) (answered : exportCall sheet budget room export ≡ Answered c) (says : c .verdict ≡ Unsat) where
