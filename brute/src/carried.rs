@@ -91,7 +91,7 @@ pub fn refute(text: &[u8], unsat: bool, cnf: &Cnf) -> Result<Carried, String> {
             Decided::TooLarge => carried.too_large += 1,
         }
     }
-    if few {
+    if few && decided != Decided::TooLarge {
         let satisfiable = satisfiable(cnf);
         if (decided == Decided::Satisfiable) != satisfiable {
             return Err("request 9: the refutation and all assignments come apart".into());
