@@ -9,6 +9,11 @@ infix 4 _∈_
 abbrev pub _∈_ : {A : Type 0} → A → List A → Type 0
 a ∈ l = List·Memᴰ a l
 
+-- no element stands twice
+abbrev pub Different : {A : Type 0} → List A → Type 0
+Different [] = Unit {0}
+Different (x ∷ xs) = (x ∈ xs → ⊥) × Different xs
+
 module _ {A : Type 0} where
   unfoldable pub isEmpty : List A → Bool
   isEmpty [] = true

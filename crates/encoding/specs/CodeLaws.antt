@@ -8,10 +8,9 @@ use native.Mathlib.Omega.{arith}
 use lib.ListN.{length, getD, set, length-set, length-replicate}
 use lib.Seq.{ext-getD, getD-set-same, getD-set-other}
 use Rattle.encoding.specs.Lengths.{atomCodes}
-use Rattle.definitions.specs.Lists.{_∈_}
+use Rattle.definitions.specs.Lists.{_∈_, Different}
 use Rattle.definitions.specs.Words.{Atom, sameAtom, position}
 use Rattle.theory.specs.Tests.{by-test, true-and-false}
-use Rattle.theory.specs.ListLaws.{Different}
 use Rattle.theory.specs.WordLaws.{atom-ext, sameAtom-eq, sameAtom-refl}
 use Rattle.encoding.specs.ArrayLaws.{getD-repeated, getD-each, getD-set-each}
 use Rattle.encoding.specs.Encoding.{place, codeOf, atomCode, indexFrom, emptyIndex}

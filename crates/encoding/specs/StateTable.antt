@@ -7,12 +7,11 @@ use lib.Dec.{eqb, ltb}
 use lib.ListN.{length, getD, replicate}
 use borrow.Author.Tests.{eqb-true, eqb-false, ltb-true, ltb-false}
 use Rattle.bits.specs.Bits.{has-high}
-use Rattle.definitions.specs.Lists.{upFrom}
+use Rattle.definitions.specs.Lists.{upFrom, Different}
 use Rattle.definitions.specs.Words.{Atom}
 use Rattle.definitions.specs.Search.{Trail}
 use Rattle.definitions.specs.LiteralTest.{Value, unsetValue, atomState}
 use Rattle.theory.specs.Tests.{by-test}
-use Rattle.theory.specs.ListLaws.{Different}
 use Rattle.theory.specs.PlaceLaws.{getElem-in, upFrom-append, map-places, getD-places}
 use Rattle.theory.specs.TableLaws.{position-at}
 use Rattle.encoding.specs.Values.{Values, setPlace, truePlace, bitIn, setBit, trueBit, valueAt}

@@ -8,12 +8,11 @@ use mathlib.Core.List.{List, _++_}
 use native.Mathlib.Omega.{arith}
 use lib.ListN.{length, getElem?}
 use lib.IntN.{ℤ, _*ℤ_}
-use Rattle.definitions.specs.Lists.{_∈_}
+use Rattle.definitions.specs.Lists.{_∈_, Different}
 use Rattle.definitions.specs.Words.{Atom, Literal, plain, position}
 use Rattle.definitions.specs.Search.{Trail, isTrue, isFalse, isUnset}
 use Rattle.definitions.specs.LiteralTest.{truth, literalSign, literalTest}
 use Rattle.theory.specs.Tests.{by-test}
-use Rattle.theory.specs.ListLaws.{Different}
 use Rattle.theory.specs.PlaceLaws.{getElem-in, getElem-left}
 use Rattle.theory.specs.TableLaws.{position-at}
 use Rattle.theory.specs.SearchLaws.{Consistent, unset-of}

@@ -6,11 +6,10 @@ use mathlib.Core.List.{List, [], _∷_, _++_, map, List·Memᴰ·head, List·Mem
 use native.Mathlib.Omega.{arith}
 use lib.ListN.{length, getD, set, length-append, length-map}
 use lib.Seq.{sets}
-use Rattle.definitions.specs.Lists.{_∈_, joined}
+use Rattle.definitions.specs.Lists.{_∈_, joined, Different}
 use Rattle.definitions.specs.Words.{Atom, Literal, Clause, Problem, goalAtoms, position}
 use Rattle.definitions.specs.Questions.{withClause}
 use Rattle.definitions.specs.Search.{enter}
-use Rattle.theory.specs.ListLaws.{Different}
 use Rattle.theory.specs.WordLaws.{goal-of}
 use Rattle.theory.specs.SearchLaws.{enter-new}
 use Rattle.theory.specs.Limits.{LiteralLimits}

@@ -8,11 +8,11 @@ use mathlib.Core.Option.{none, some}
 use mathlib.Core.List.{List, _∷_, _++_, map, List·Memᴰ·cases-cons, List·Memᴰ·head, List·Memᴰ·not-nil, Memᴰ·cast, Memᴰ·of-map}
 use native.Mathlib.Omega.{arith}
 use lib.ListN.{length, getD, length-map}
-use Rattle.definitions.specs.Lists.{_∈_}
+use Rattle.definitions.specs.Lists.{_∈_, Different}
 use Rattle.definitions.specs.Words.{Atom, Literal, plain, Problem, goalAtoms, position}
 use Rattle.definitions.specs.Instances.{Task, taskOf}
 use Rattle.definitions.specs.Search.{forced, Entry, Trail, isTrue, isUnset, State, force, nextAct, nextGoal, backtrack, setUnit, more}
-use Rattle.theory.specs.ListLaws.{at-split, in-along, pigeonhole, Different}
+use Rattle.theory.specs.ListLaws.{at-split, in-along, pigeonhole}
 use Rattle.theory.specs.SearchLaws.{Consistent, true-at, unset-new, goal-first}
 use Rattle.theory.specs.Steps.{unit}
 use Rattle.theory.specs.Trail.{Decision, Consequence, Ok, bare, next}

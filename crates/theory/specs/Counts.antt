@@ -9,7 +9,7 @@ use native.Mathlib.Omega.{arith}
 use lib.Dec.{leb, ltb}
 use lib.ListN.{length, length-append}
 use borrow.Author.Tests.{leb-false, ltb-true, ltb-false}
-use Rattle.definitions.specs.Lists.{_∈_, any, all, added}
+use Rattle.definitions.specs.Lists.{_∈_, any, all, added, Different}
 use Rattle.definitions.specs.Words.{Atom, Literal, sameAtom, goalAtoms}
 use Rattle.definitions.specs.Instances.{Instance, Task}
 use Rattle.definitions.specs.Search.{Trail, isTrue, isFalse, Logged, clauseOf, State, start, notFalse, actOn, isGoal, nextAct, nextInstance, loggedOf, enter, enterTaken, setUnit, logInstance, decide, afterConflict, Outcome, done, hasRoom, run, enough, searchTask}
@@ -17,7 +17,7 @@ use Rattle.definitions.specs.Verdicts.{SpentWhen, NoRoom, clause513, atom257, F
 use Rattle.definitions.specs.declared.Verdict.{Verdict}
 use Rattle.definitions.specs.declared.Verdict.the-variants.{Unsat, Unknown, Spent, Full}
 use Rattle.theory.specs.Tests.{by-test, by-option, none≢some, some-injective, and-intro, or-right, true-and-false}
-use Rattle.theory.specs.ListLaws.{all-of, Different, different-more}
+use Rattle.theory.specs.ListLaws.{all-of, different-more}
 use Rattle.theory.specs.SearchLaws.{negated-false, unset-of, clause-taken, clause-cases, false-conflict, unit-force, mayLogged, logged-quiet, Fired, fired}
 use Rattle.theory.specs.Steps.{Step, unit, undone, refuted, logs, overflows, decides, overspends, rests, After, run-keeps}
 use Rattle.theory.specs.Ends.{Fits, step-fits, start-fits, search-fits, standing, backtrack-standing, backtrack-none}

@@ -8,9 +8,9 @@ use native.Mathlib.Omega.{arith}
 use lib.ListN.{length, take, length-append}
 use lib.Seq.{take-at, take-all}
 use borrow.Author.Tests.{not-true}
-use Rattle.definitions.specs.Lists.{_∈_, any, all, filter, distinct, added}
+use Rattle.definitions.specs.Lists.{_∈_, any, all, filter, distinct, added, Different}
 use Rattle.theory.specs.Tests.{by-test, true-and-false}
-use Rattle.theory.specs.ListLaws.{any-some, any-of, any-none, none-any, all-each, all-of, filter-of, filter-in, filter-length, filter-append, filter-all, filter-both, Different}
+use Rattle.theory.specs.ListLaws.{any-some, any-of, any-none, none-any, all-each, all-of, filter-of, filter-in, filter-length, filter-append, filter-all, filter-both}
 use Rattle.theory.specs.PlaceLaws.{filter-different, filter-alike, filter-map}
 
 -- ── its elements ──

@@ -9,13 +9,13 @@ use native.Mathlib.Omega.{arith}
 use lib.Dec.{ltb}
 use lib.ListN.{length, length-append, length-map}
 use borrow.Author.Tests.{leb-true, ltb-true}
-use Rattle.definitions.specs.Lists.{_∈_}
+use Rattle.definitions.specs.Lists.{_∈_, Different}
 use Rattle.definitions.specs.Words.{Atom, Literal, negate, plain, goalAtoms}
 use Rattle.definitions.specs.Instances.{Instance, Task}
 use Rattle.definitions.specs.Search.{decided, flipped, forced, Entry, Trail, isUnset, Logged, clauseOf, State, start, force, isGoal, nextAct, nextInstance, loggedOf, enterTaken, nextGoal, backtrack, setUnit, logInstance, decide, afterConflict, Outcome, more, done, hasRoom, step, run, enough, searchTask}
 use Rattle.definitions.specs.declared.Verdict.{Verdict}
 use Rattle.theory.specs.Tests.{apart, and-left, and-right}
-use Rattle.theory.specs.ListLaws.{in-along, at-split, Different, pigeonhole}
+use Rattle.theory.specs.ListLaws.{in-along, at-split, pigeonhole}
 use Rattle.theory.specs.WordLaws.{negate-atom, goal-of}
 use Rattle.theory.specs.SearchLaws.{by-why, true-at, unset-new, clause-cases, force-unit, mayLogged, act-from, fired, goal-first, enterTaken-old, enterTaken-new}
 use Rattle.theory.specs.Steps.{Step, unit, undone, refuted, logs, overflows, decides, overspends, rests, kind, After, run-keeps, Falls, IsDone, run-ends}

@@ -6,11 +6,11 @@ use mathlib.Core.Logic.{inl}
 use mathlib.Core.Option.{Option, none, some}
 use mathlib.Core.List.{List, [], _++_, append-nil, append-assoc}
 use lib.ListN.{length}
+use Rattle.definitions.specs.Lists.{Different}
 use Rattle.definitions.specs.Words.{Atom, Literal, goalAtoms}
 use Rattle.definitions.specs.Instances.{Task}
 use Rattle.definitions.specs.Search.{State, start, loggedOf, enterTaken, setUnit, logInstance, decide, afterConflict, Outcome, more, done, enough, searchTask}
 use Rattle.definitions.specs.declared.Verdict.{Verdict}
-use Rattle.theory.specs.ListLaws.{Different}
 use Rattle.theory.specs.TableLaws.{enter-different, enter-behind, goal-atoms-different}
 use Rattle.theory.specs.Steps.{Step, unit, undone, refuted, logs, overflows, decides, overspends, rests, After, run-keeps}
 use Rattle.theory.specs.Ends.{Fits, start-fits, step-fits}

@@ -7,7 +7,7 @@ use mathlib.Core.Option.{Option, none, some}
 use mathlib.Core.List.{List, [], _∷_, _++_, map, cons≢nil, List·Memᴰ·head, List·Memᴰ·tail, List·Memᴰ·cases-cons, List·Memᴰ·append-cases, List·Memᴰ·not-nil, Memᴰ·append-left, Memᴰ·append-right, Memᴰ·cast, head-eq-of-cons-eq, tail-eq-of-cons-eq}
 use native.Mathlib.Omega.{arith}
 use lib.ListN.{length, length-append}
-use Rattle.definitions.specs.Lists.{_∈_, isEmpty, any, all, filter, find, firstSome, joined}
+use Rattle.definitions.specs.Lists.{_∈_, isEmpty, any, all, filter, find, firstSome, joined, Different}
 use Rattle.theory.specs.Tests.{by-test, by-option, apart, none≢some}
 
 -- an element of a list that is split
@@ -214,11 +214,6 @@ module _ {A B : Type 0} (f : A → List B) where
   unfolding joined
   joined-append [] ys = refl
   joined-append (x ∷ xs) ys = cc (joined-append xs ys, mathlib.Core.List.append-assoc (f x) (joined f xs) (joined f ys))
-
--- no element stands twice
-abbrev pub Different : {A : Type 0} → List A → Type 0
-Different [] = Unit {0}
-Different (x ∷ xs) = (x ∈ xs → ⊥) × Different xs
 
 pub different-more : {A : Type 0} (l : List A) (x : A) → Different l → (x ∈ l → ⊥) → Different (l ++ (x ∷ []))
 different-more [] x d n = (λ m. List·Memᴰ·not-nil m, tt)

@@ -11,9 +11,9 @@ use lib.Dec.{eqb}
 use lib.ListN.{length, getD, getElem?, length-append, List·getD-append}
 use lib.Seq.{getD-append-add}
 use borrow.Author.Tests.{eqb-true, eqb-false}
-use Rattle.definitions.specs.Lists.{_∈_, isEmpty, any, all, filter, find, joined, upFrom}
+use Rattle.definitions.specs.Lists.{_∈_, isEmpty, any, all, filter, find, joined, upFrom, Different}
 use Rattle.theory.specs.Tests.{by-test, apart, none≢some, some-injective}
-use Rattle.theory.specs.ListLaws.{filter-in, Different}
+use Rattle.theory.specs.ListLaws.{filter-in}
 
 -- ── the element at a place ──
 

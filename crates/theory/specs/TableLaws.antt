@@ -8,12 +8,12 @@ use mathlib.Core.Option.{some}
 use mathlib.Core.List.{List, [], _∷_, _++_, map, List·Memᴰ·head, List·Memᴰ·tail, List·Memᴰ·cases-cons, List·Memᴰ·not-nil, Memᴰ·cast, append-nil, append-assoc, map-append}
 use native.Mathlib.Omega.{arith}
 use lib.ListN.{length, getElem?}
-use Rattle.definitions.specs.Lists.{_∈_, distinct, joined}
+use Rattle.definitions.specs.Lists.{_∈_, distinct, joined, Different}
 use Rattle.definitions.specs.Words.{Atom, Literal, sameAtom, Clause, goalAtoms, position}
 use Rattle.definitions.specs.Search.{enter}
 use Rattle.theory.specs.Tests.{by-test, true-and-false, none≢some, some-injective}
 use Rattle.theory.specs.DistinctLaws.{distinct-different, by-member, added-known, added-new, distinct-added}
-use Rattle.theory.specs.ListLaws.{joined-append, Different, different-more, each-nil, each-cons, each-append}
+use Rattle.theory.specs.ListLaws.{joined-append, different-more, each-nil, each-cons, each-append}
 use Rattle.theory.specs.PlaceLaws.{getElem-in}
 use Rattle.theory.specs.WordLaws.{sameAtom-eq, sameAtom-refl}
 

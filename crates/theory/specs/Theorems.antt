@@ -7,7 +7,7 @@ use mathlib.Core.List.{List}
 use native.Mathlib.Omega.{arith}
 use lib.ListN.{length}
 use Rattle.definitions.specs.Bounds.{roomBytes}
-use Rattle.definitions.specs.Lists.{_∈_}
+use Rattle.definitions.specs.Lists.{_∈_, Different}
 use Rattle.definitions.specs.Words.{Problem, goalAtoms}
 use Rattle.definitions.specs.Instances.{taskOf}
 use Rattle.definitions.specs.Meaning.{Choice, Fails}
@@ -19,7 +19,6 @@ use Rattle.definitions.specs.Call.{refusal, unended, searched, answered, Lendin
 use Rattle.definitions.specs.declared.Verdict.{Verdict}
 use Rattle.definitions.specs.declared.Verdict.the-variants.{Unsat, Unknown, Spent, Full}
 use Rattle.theory.specs.Tests.{apart}
-use Rattle.theory.specs.ListLaws.{Different}
 use Rattle.theory.specs.Steps.{IsDone}
 use Rattle.theory.specs.Ends.{search-ends}
 use Rattle.theory.specs.Counts.{decisions-within-budget, conflicts-at-most-decisions-plus-1, spent-only-when, full-only-when, limits-kept, no-instance-logged-twice}

@@ -12,11 +12,11 @@ use lib.Bits.{bitAnd, mask-lt}
 use lib.Count.{trailingZeros, trailing-of-zero, trailing-le}
 use lib.ListN.{length}
 use Rattle.bits.specs.Bits.{has, by-bit, zeros-odd, zeros-even, has-and, has-ones, has-complement}
-use Rattle.definitions.specs.Lists.{_∈_, find}
+use Rattle.definitions.specs.Lists.{_∈_, find, Different}
 use Rattle.definitions.specs.Words.{Atom, plain, sameAtom, position}
 use Rattle.definitions.specs.Search.{Trail, isUnset}
 use Rattle.theory.specs.Tests.{by-test, apart, true-and-false, none≢some}
-use Rattle.theory.specs.ListLaws.{at-split, in-along, Different, find-in, find-passes}
+use Rattle.theory.specs.ListLaws.{at-split, in-along, find-in, find-passes}
 use Rattle.theory.specs.WordLaws.{sameAtom-eq, sameAtom-refl}
 use Rattle.theory.specs.TableLaws.{position-inside, position-append, position-behind}
 use Rattle.encoding.specs.Values.{Values, goalsSet, setBit, unsetAt}

@@ -6,12 +6,11 @@ use mathlib.Core.Bool.{true, false}
 use mathlib.Core.List.{List, [], _∷_, _++_, map, List·Memᴰ·head, List·Memᴰ·tail, List·Memᴰ·append-cases, List·Memᴰ·eq-of-singleton, List·Memᴰ·not-nil, Memᴰ·cast, Memᴰ·map, Memᴰ·of-map}
 use native.Mathlib.Omega.{arith}
 use lib.ListN.{length, getD, set, take, drop, length-append}
-use Rattle.definitions.specs.Lists.{_∈_, any}
+use Rattle.definitions.specs.Lists.{_∈_, any, Different}
 use Rattle.definitions.specs.Words.{Atom, Literal, negate, plain, sameAtom, sameLiteral, position}
 use Rattle.definitions.specs.Search.{Why, Entry, Trail, isTrue, isFalse, isUnset}
 use Rattle.definitions.specs.LiteralTest.{Value, unsetValue, truth, atomState}
 use Rattle.theory.specs.Tests.{by-test}
-use Rattle.theory.specs.ListLaws.{Different}
 use Rattle.theory.specs.WordLaws.{sameAtom-eq, sameLiteral-eq, negate-negate, negate-atom, negate-differs, plain-atom, as-plain, as-negated}
 use Rattle.theory.specs.SearchLaws.{true-at, at-true, unset-not-false, unset-of}
 use Rattle.theory.specs.TableLaws.{apart-atoms, position-inside, position-injective, position-append, position-behind}
