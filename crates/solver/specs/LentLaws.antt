@@ -60,14 +60,10 @@ pub written-fits : (bytes room : List ℕ) {n : ℕ} {after : List ℕ} → n �
 unfolding written
 written-fits bytes room size stored = omega (arith, size, ap length stored, length-append bytes (drop (length bytes) room))
 
--- the front of the room that is as long as the listing is the listing
-module _ (came : Result) (room : List ℕ) (r : Solved) (after : List ℕ) (solved : SolvedAs came [] room [] r after []) where
-  pub solved-length : r .length ≤ length after
-  solved-length = written-fits (listingOf came) room (solved .size) (solved .stored)
-
-  pub solved-front : take (r .length) after ≡ listingOf came
-  unfolding written
-  solved-front = rw (solved .size, solved .stored) (take-append-seam (listingOf came) (drop (length (listingOf came)) room))
+-- and is the front of it that is as long
+pub written-front : (bytes room : List ℕ) {n : ℕ} {after : List ℕ} → n ≡ length bytes → after ≡ written bytes room → take n after ≡ bytes
+unfolding written
+written-front bytes room size stored = rw (size, stored) (take-append-seam bytes (drop (length bytes) room))
 
 -- ── two rooms ──
 

@@ -47,22 +47,22 @@ pub fn solve(sheet: &[u8], budget: u32, room: &mut [u8]) -> Answer
     solved.answer
 }
 
-// The second call: leaves the room as the first does, and hands back the front part that holds the listing, an empty part for a refusal.
-pub fn solve_listing<'a, 'b>(sheet: &'b [u8], budget: u32, room: &'a mut [u8]) -> &'a mut [u8]
-    ensures { λ r. ⌜ (now r ≡ listedPart (now (sheet .entry)) budget (now (room .entry))) × (r .ptr ≡ room .entry .ptr) ⌝ }
-{
-    let solved = solve_both(sheet, budget, room);
-    let length = solved.length;
-    &mut room[..length]
-}
-
-// The second call for those who keep the room: how many bytes at its front hold the listing.
+// The second call for those who keep the room: leaves it as the first does; how many bytes at its front hold the listing, 0 for a refusal.
 pub fn list(sheet: &[u8], budget: u32, room: &mut [u8]) -> usize
     ensures { λ r. ⌜ (r ≡ length (listedPart (now (sheet .entry)) budget (now (room .entry))))
         × (now (room .exit) ≡ roomAfter (now (sheet .entry)) budget (now (room .entry))) ⌝ }
 {
     let solved = solve_both(sheet, budget, room);
     solved.length
+}
+
+// The second call: hands back the front part of the room that holds the listing, an empty part for a refusal. Once a part is handed back,
+// a contract can't speak of the whole room; so this is `list`, whose contract does, and the part, and nothing else.
+pub fn solve_listing<'a, 'b>(sheet: &'b [u8], budget: u32, room: &'a mut [u8]) -> &'a mut [u8]
+    ensures { λ r. ⌜ (now r ≡ listedPart (now (sheet .entry)) budget (now (room .entry))) × (r .ptr ≡ room .entry .ptr) ⌝ }
+{
+    let length = list(sheet, budget, room);
+    &mut room[..length]
 }
 
 // What the program prints for a sheet, at the front of the room: the listing, or the line of a refusal. How many bytes it has.
