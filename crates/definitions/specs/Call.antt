@@ -13,6 +13,7 @@ use Rattle.definitions.specs.Questions.{Reading, refused, accepted, read
 use Rattle.definitions.specs.Search.{State, Outcome, more, done, search}
 use Rattle.definitions.specs.Listing.{answerNumber, listing, refusalLine}
 use Rattle.definitions.specs.declared.Verdict.{Verdict}
+use Rattle.definitions.specs.declared.Counts.{Counts}
 use Rattle.definitions.specs.declared.Answer.{Answer}
 use Rattle.definitions.specs.declared.Answer.the-variants.{Refused, Answered}
 
@@ -55,11 +56,14 @@ afterLending ls sheet budget = elim (firstShort ls) [ none ↦ answered (read sh
 unfoldable pub result : List ℕ → ℕ → List ℕ → Result
 result sheet budget room = afterLending (lendings (length room)) sheet budget
 
+-- "which of the four it is and the counts of atoms, logged clauses, decisions and conflicts"
+abbrev pub countsOf : Verdict → State → Counts
+countsOf v s = record { verdict = v; atoms = length (s .table); logged = length (s .log); decisions = s .decisions; conflicts = s .conflicts }
+
 -- what the call hands back
 unfoldable pub answerOf : Result → Answer
 answerOf (refusal q n) = Refused (record { number = q; line = n })
-answerOf (ended v s) =
-    Answered (record { verdict = v; atoms = length (s .table); logged = length (s .log); decisions = s .decisions; conflicts = s .conflicts })
+answerOf (ended v s) = Answered (countsOf v s)
 answerOf unended = Refused (record { number = 0; line = 0 })
 
 -- the listing; a refusal has none
@@ -99,20 +103,25 @@ unfoldable pub values : Answer → List ℕ
 values (Refused r) = r .number ∷ r .line ∷ []
 values (Answered c) = answerNumber (c .verdict) ∷ c .atoms ∷ c .logged ∷ c .decisions ∷ c .conflicts ∷ []
 
+-- the latter for a search that ended in a state
+abbrev pub numbersOf : Verdict → State → List ℕ
+numbersOf v s = answerNumber v ∷ length (s .table) ∷ length (s .log) ∷ s .decisions ∷ s .conflicts ∷ []
+
 -- ── what a call comes to ──
 
 module _ (sheet : List ℕ) (budget : ℕ) (room : List ℕ) where
   -- "for a refusal the number and line", "an empty part for a refusal", "a refused call leaves all the room unchanged"
   pub record RefusedWith (question line : ℕ) : Type 0 where
     pub handedBack : call sheet budget room ≡ Refused (record { number = question; line = line })
+    pub numbers : values (call sheet budget room) ≡ question ∷ line ∷ []
     pub part : listedPart sheet budget room ≡ []
     pub unchanged : roomAfter sheet budget room ≡ room
 
   -- "otherwise which of the four it is and the counts" of the search's last state; the second call hands back "the front part of the
   -- lent room that holds the listing" of that state: log, setting and counts; either "leaves the bytes behind the listing unchanged"
   pub record AnsweredWith (v : Verdict) (s : State) : Type 0 where
-    pub handedBack : call sheet budget room
-        ≡ Answered (record { verdict = v; atoms = length (s .table); logged = length (s .log); decisions = s .decisions; conflicts = s .conflicts })
+    pub handedBack : call sheet budget room ≡ Answered (countsOf v s)
+    pub numbers : values (call sheet budget room) ≡ numbersOf v s
     pub part : listedPart sheet budget room ≡ listing v s
     pub front : roomAfter sheet budget room ≡ listing v s ++ drop (length (listing v s)) room
 
@@ -131,6 +140,14 @@ module _ (sheet : List ℕ) (budget : ℕ) (room : List ℕ) where
     pub state : State
     pub comes : search problem budget ≡ done v state
     pub answer : AnsweredWith v state
+
+-- ── what is printed ──
+
+-- "for a refusal it prints one line of kind 9 with number and line"; otherwise what is made of the problem and of where its search ends
+pub data Prints (made : Problem → Verdict → State → List ℕ) (sheet : List ℕ) (budget : ℕ) (bytes : List ℕ) : Type 0 where
+  refusalPrinted : (question line : ℕ) → read sheet ≡ refused question line → bytes ≡ refusalLine question line → Prints made sheet budget bytes
+  answerPrinted : (p : Problem) → read sheet ≡ accepted p → (v : Verdict) (s : State) → search p budget ≡ done v s → bytes ≡ made p v s
+      → Prints made sheet budget bytes
 
 -- names every definition of this module, for a theorem that computes with all of them
 unfoldable pub Call·all : Unit {0}

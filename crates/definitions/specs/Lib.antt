@@ -16,6 +16,7 @@ pub mod Call
 pub mod Export
 pub mod Sheets
 pub mod Carried
+pub mod Supposed
 pub mod Trials
 pub mod Refusals
 pub mod WrongTurns

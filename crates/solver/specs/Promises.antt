@@ -1,29 +1,31 @@
 -- What the solver promises. Read this first.
--- A call takes a sheet's bytes, a 32-bit budget and a room that is lent. The contracts of `solve` and `solve_listing` say that they hand
--- back `call` and `listedPart` and leave `roomAfter` in the room, for all bytes, budgets and rooms, and they require nothing. Here
--- stands what these three are: demand 1, demand 2 and demand 3. The words are those of documents 01 and 02, each defined in the crate
--- `definitions`; where arrays are spoken of, the crate that has them says how they stand. What is taken from the theory are proofs.
--- Assumes nothing.
+-- A call takes a sheet's bytes, a 32-bit budget and a room that is lent. The contracts say, for all bytes, budgets and rooms: `solve` hands
+-- back `call` and leaves `roomAfter` in the room, and so does `list`, which hands back the length of `listedPart`. `solve_listing` hands back
+-- the front part of the room, which is `listedPart`; of the bytes behind that part its contract can't speak, and it is the one call that is
+-- given by less: its body is `list` and the part. They require nothing. Here stands what these three are: demand 1, demand 2 and demand 3.
+-- The words are those of documents 01 and 02, each defined in the crate `definitions`; where arrays are spoken of, the crate that has them
+-- says how they stand. What is taken from the theory are proofs. Assumes nothing.
 use Prim.Native.Nat.{ℕ, suc, _+_, _%_, _≤_, _<_}
 use mathlib.Core.Path.{_≡_, refl, ap, subst, _∙_}
 use mathlib.Core.Logic.{_⊎_}
 use mathlib.Core.Bool.{true, false, _||_}
 use mathlib.Core.List.{List, [], _++_, map}
 use lib.ListN.{length, take, drop}
-use Rattle.definitions.specs.Lists.{_∈_, all, joined, distinct, upFrom}
+use Rattle.definitions.specs.Lists.{_∈_, Different, all, joined, distinct, upFrom}
 use Rattle.definitions.specs.Bounds.{sheetBytes, roomBytes, mostAtoms, mostExported, exportBytes}
 use Rattle.definitions.specs.Words.{Atom, Literal, sameLiteral, Clause, Rule, TwoWay, twoWay, Problem, goalAtoms}
 use Rattle.definitions.specs.Instances.{substitutions, Instance, Task, taskOf, FillingOf}
-use Rattle.definitions.specs.Meaning.{Choice, Fails, Assignment, SatisfiesClause, SatisfiesClauses, SatisfiesFilling, SatisfiesRule, SatisfiesLine, Satisfies}
-use Rattle.definitions.specs.Sheet.{Line, nothing, decimal}
+use Rattle.definitions.specs.Meaning.{Choice, Fails, Earlier, Assignment, SatisfiesClause, SatisfiesClauses, SatisfiesFilling, SatisfiesRule, SatisfiesLine, Satisfies}
+use Rattle.definitions.specs.Sheet.{Line, Number, nothing, decimal}
 use Rattle.definitions.specs.Questions.{Asked, no, yes, columns, connected, hasReverse, standsFor, rulesOf, readClause, Draft, readLine, accepted, read}
 use Rattle.definitions.specs.Search.{Trail, isTrue, Logged, clauseOf, notFalse, actOn, isGoal, loggedAct, nextAct, State, clausesOf, start, done, cameTo, run, search}
 use Rattle.definitions.specs.LiteralTest.{literalTest, TellsApart}
 use Rattle.definitions.specs.ClauseNumbers.{clauseNumbers, mayAct, nextActAmong}
 use Rattle.definitions.specs.Verdicts.{FirstChoice, SpentWhen, FullWhen}
+use Rattle.definitions.specs.Listing.{listing}
 use Rattle.definitions.specs.Text.{bytes}
 use Rattle.definitions.specs.Dimacs.{Cnf, cnfOf, headerLine, cnfText, readCnf, CnfLimits}
-use Rattle.definitions.specs.Call.{Lending, afterLending, call, listedPart, roomAfter, printed, Comes, FromSearch}
+use Rattle.definitions.specs.Call.{Lending, afterLending, call, listedPart, roomAfter, printed, Comes, FromSearch, Prints}
 use Rattle.definitions.specs.Export.{exportCall, exportText, roomAfterExport, exportAfter, printedCnf, ExportComes}
 use Rattle.definitions.specs.Sheets.{Accepted, Answers, Row, ofKind, Keeps, passes, FilledAlike, blankColumn, isBlank, HeadAmong, Shares, Apart}
 use Rattle.definitions.specs.Carried.{clauseOn, Entailed, NumberAssignment, SatisfiesNumberClauses, Unsatisfiable}
@@ -31,12 +33,15 @@ use Rattle.definitions.specs.declared.Verdict.{Verdict}
 use Rattle.definitions.specs.declared.Verdict.the-variants.{Unsat, Unknown, Spent, Full}
 use Rattle.definitions.specs.declared.Counts.{Counts}
 use Rattle.definitions.specs.declared.Answer.the-variants.{Answered}
+use Rattle.definitions.specs.Supposed.{its-accepted, allButP, its-satisfied, both-earlier, broken, handed-back, larger, larger-accepted, larger-keeps, plainly, withBlanks, filled-alike, longer, numbers-satisfied}
+use Rattle.definitions.specs.Supposed
 use Rattle.definitions.specs.TwoWayTrials.{freeSheet, freeProblem, free-read, bodyAlone, clauses-satisfied, rules-satisfied, equivalence-broken}
 use Rattle.definitions.specs.CarriedTrials.{bothSheet, bothProblem, both-read, bothState, both-ends, bothCounts, both-begins, two-logged, allBut, each-needed, firstRow, first-follows, first-listed, two-in-body, first-satisfied, filling-broken}
-use Rattle.theory.specs.Theorems.{unsat, unknown, spent, full}
+use Rattle.theory.specs.Theorems.{unsat, unknown, spent, full, decisions-at-most-the-budget, conflicts-at-most-one-more, logged-once}
 use Rattle.theory.specs.InstanceLaws.{substitution-complete, every-filling, only-fillings}
 use Rattle.theory.specs.SearchLaws.{clause-once, heads-once}
-use Rattle.theory.specs.CallLaws.{call-comes, answer-from-search, its-search}
+use Rattle.theory.specs.CallLaws.{call-comes, prints-listing}
+use Rattle.theory.specs.CallAnswers.{answer-from-search, its-search}
 use Rattle.theory.specs.TruthLaws.{search-tells-apart}
 use Rattle.theory.specs.TwoWayLaws.{equivalence-rules, rules-equivalence, lines-rules}
 use Rattle.theory.specs.Limits.{accepted-limits, accepted-from-lines}
@@ -49,7 +54,7 @@ use Rattle.theory.specs.BlankColumns.{nothing-blank, passed-over, blank-line, s
 use Rattle.theory.specs.CnfReads.{cnf-round-trip, cnf-exact}
 use Rattle.theory.specs.CnfRefusals.{cnf-refusals, bad-header, good-header}
 use Rattle.theory.specs.Exports.{export-limits, export-size}
-use Rattle.theory.specs.ExportLaws.{export-comes, export-as-first-call, exported-read-back}
+use Rattle.theory.specs.ExportLaws.{export-comes, export-as-first-call, exported-read-back, prints-text}
 use Rattle.theory.specs.CarriedLaws.{unsat-carried, exported-carried, printed-carried, table-decides, numbers-decide, listed-follows, printed-follows, satisfies-clauses, exported-refutes, printed-refutes, both-answered, both-export-answered}
 use Rattle.encoding.specs.Encoding.{literalWord, sizesOf}
 use Rattle.encoding.specs.Values.{Values, goalsSet, goalsTrue, literalValue}
@@ -69,13 +74,17 @@ module _ (sheet : List ℕ) (budget : ℕ) (room : List ℕ) where
   -- ── demand 1 ──
 
   -- Bytes that are no proper sheet, or too small a room: the call ends with the number of the first question that fails and its line,
-  -- and the room is unchanged. Every other call ends with one of four answers.
+  -- and the room is unchanged. Every other call ends with one of four answers. Either by document 01's numbers, `values`, too.
   pub demand-1 : Comes sheet budget room
   demand-1 = call-comes sheet budget room
 
+  -- What the program prints, by the contract of `print`: the line of a refusal, or the listing.
+  pub demand-1-printed : Prints (λ p v s. listing v s) sheet budget (printed sheet budget)
+  demand-1-printed = prints-listing sheet budget
+
   -- ── demand 2 ──
 
-  -- Answer, setting, clauses with their order, and both counts are those of the search.
+  -- Answer, setting, clauses with their order, and both counts are those of the search, whichever call answers.
   pub demand-2 : (v : Verdict) → Answers sheet budget room v → FromSearch sheet budget room v
   demand-2 = answer-from-search sheet budget room
 
@@ -96,6 +105,17 @@ module _ (sheet : List ℕ) (budget : ℕ) (room : List ℕ) where
     pub demand-2-full : Answers sheet budget room Full → (f : FromSearch sheet budget room Full) × FullWhen (taskOf p) (f .state)
     demand-2-full given = let f = demand-2 Full given in (f, full sheet p reads budget (f .state) (its-search sheet budget room p reads Full f))
 
+    module _ (v : Verdict) (f : FromSearch sheet budget room v) where
+      -- Whatever the answer, decisions number at most the budget, and conflicts at most decisions plus 1.
+      pub demand-2-counts : (f .state .decisions ≤ budget) × (f .state .conflicts ≤ suc (f .state .decisions))
+      demand-2-counts =
+          let ends = its-search sheet budget room p reads v f in
+          (decisions-at-most-the-budget sheet p reads budget v (f .state) ends, conflicts-at-most-one-more sheet p reads budget v (f .state) ends)
+
+      -- No instance is logged twice with the same body literal, or twice with a false body.
+      pub demand-2-logged-once : Different (f .state .log)
+      demand-2-logged-once = logged-once sheet p reads budget v (f .state) (its-search sheet budget room p reads v f)
+
 -- ── demand 3 ──
 
 -- Take any sheet that some call answers UNSAT, at whatever budget and room, and any second accepted sheet that keeps its constants,
@@ -109,6 +129,28 @@ module _ (first second : List ℕ) (budget : ℕ) (room : List ℕ) (answered : 
   -- and no call, at whatever budget and room, answers it UNKNOWN.
   pub demand-3-calls : (otherBudget : ℕ) (otherRoom : List ℕ) → Answers second otherBudget otherRoom Unknown → ⊥
   demand-3-calls = never-unknown first second budget room answered accepts keeps
+
+-- ── what is supposed comes up ──
+
+-- An accepted sheet with an assignment that satisfies it, as `demand-3-assignments` says there is none, and with two choices of which the first is
+-- earlier, as in `FirstChoice`;
+pub supposed-satisfied : (sheet : List ℕ) × (accepts : Accepted sheet) × (v : Assignment) × Satisfies v (accepts .problem)
+supposed-satisfied = (Supposed.sheet, its-accepted, allButP, its-satisfied)
+
+pub supposed-earlier : (sheet : List ℕ) × (accepts : Accepted sheet) × (τ : Choice) × (σ : Choice) × Earlier (taskOf (accepts .problem)) τ σ
+supposed-earlier = (Supposed.sheet, its-accepted, _, _, both-earlier)
+
+-- a sheet that is answered UNSAT, by each call that answers, and a second accepted one that keeps it;
+pub supposed-kept : (first : List ℕ) × (second : List ℕ) × (budget : ℕ) × (room : List ℕ) × Answers first budget room Unsat × Accepted second × Keeps first second
+supposed-kept = (broken, larger, 7, _, handed-back, larger-accepted, larger-keeps)
+
+-- two sheets that are filled alike (3/14), and that are not the same bytes;
+pub supposed-alike : (first : List ℕ) × (second : List ℕ) × FilledAlike first second × (length first ≡ length second → ⊥)
+supposed-alike = (plainly, withBlanks, filled-alike, longer)
+
+-- and numbers that satisfy a text's clauses (9/14).
+pub supposed-numbers : (v : NumberAssignment) × (clauses : List (List Number)) × (length clauses ≡ 2) × SatisfiesNumberClauses v clauses
+supposed-numbers = (_, _, refl, numbers-satisfied)
 
 -- ── the change requests of document 02 ──
 
@@ -127,6 +169,10 @@ module _ (sheet : List ℕ) (budget : ℕ) (room export : List ℕ) where
   -- the record, the listing in its room, and the text at the front of the export room with the bytes behind it unchanged.
   pub request-2 : ExportComes sheet budget room export
   request-2 = export-comes sheet budget room export
+
+  -- What the program prints for its word `cnf`, by the contract of `print_cnf`: the line of a refusal, or the text.
+  pub request-2-printed : Prints (λ p v s. cnfText (cnfOf (p .clauses) s)) sheet budget (printedCnf sheet budget)
+  request-2-printed = prints-text sheet budget
 
   -- The text as it stands in the export room then.
   abbrev exported : List ℕ

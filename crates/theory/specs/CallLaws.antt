@@ -1,22 +1,19 @@
--- What a call comes to, by its room and its sheet, and that its answer is the one that the search comes to. Assumes nothing.
+-- What a call comes to, by its room and its sheet, and what the program prints. Assumes nothing.
 use Prim.Native.Nat.{ℕ, _≤_, _<_}
-use mathlib.Core.Path.{_≡_, refl, sym, ap, _∙_, subst}
+use mathlib.Core.Path.{_≡_, refl, ap, _∙_}
 use mathlib.Core.Option.{none, some}
-use mathlib.Core.List.{List, []}
+use mathlib.Core.List.{List}
 use lib.Dec.{leb}
-use lib.ListN.{length, take, drop}
+use lib.ListN.{length}
 use borrow.Author.Tests.{le-leb, lt-leb, leb-true, leb-false}
 use Rattle.definitions.specs.Bounds.{roomBytes}
 use Rattle.definitions.specs.Words.{Problem}
-use Rattle.definitions.specs.Sheet.{number, plus, decimal}
 use Rattle.definitions.specs.Questions.{Reading, refused, accepted, read}
-use Rattle.definitions.specs.Search.{State, done, search}
-use Rattle.definitions.specs.Listing.{answerNumber, listing}
-use Rattle.definitions.specs.Call.{Result, refusal, ended, searched, answered, lendings, firstShort, afterLending, result, answerOf, listingOf, written, call, listedPart, roomAfter, printedOf, printed, RefusedWith, AnsweredWith, Comes, tooSmall, improper, proper, FromSearch}
-use Rattle.definitions.specs.Sheets.{Answers, handsBack, lists}
+use Rattle.definitions.specs.Search.{State, Outcome, done, search}
+use Rattle.definitions.specs.Listing.{listing}
+use Rattle.definitions.specs.Call.{Result, refusal, ended, searched, answered, lendings, firstShort, afterLending, result, answerOf, listingOf, written, call, listedPart, roomAfter, printedOf, printed, values, RefusedWith, AnsweredWith, Comes, tooSmall, improper, proper, Prints, refusalPrinted, answerPrinted}
 use Rattle.definitions.specs.declared.Verdict.{Verdict}
-use Rattle.theory.specs.Tests.{by-test, apart}
-use Rattle.theory.specs.ListingLaws.{listed-answer}
+use Rattle.theory.specs.Tests.{by-test}
 use Rattle.theory.specs.Theorems.{search-comes-to-an-answer}
 
 pub accepted-injective : {p q : Problem} → accepted p ≡ accepted q → p ≡ q
@@ -44,14 +41,24 @@ module _ (sheet : List ℕ) (budget : ℕ) (room : List ℕ) where
   -- ── what it comes to ──
 
   refused-with : (question line : ℕ) → result sheet budget room ≡ refusal question line → RefusedWith sheet budget room question line
-  unfolding call listedPart roomAfter answerOf listingOf written
+  unfolding call listedPart roomAfter answerOf listingOf written values
   refused-with question line e =
-      record { handedBack = ap answerOf e; part = ap listingOf e; unchanged = ap (λ (r : Result). written (listingOf r) room) e }
+      record {
+        handedBack = ap answerOf e;
+        numbers = ap (λ (r : Result). values (answerOf r)) e;
+        part = ap listingOf e;
+        unchanged = ap (λ (r : Result). written (listingOf r) room) e;
+      }
 
   answered-with : (v : Verdict) (s : State) → result sheet budget room ≡ ended v s → AnsweredWith sheet budget room v s
-  unfolding call listedPart roomAfter answerOf listingOf written
+  unfolding call listedPart roomAfter answerOf listingOf written values
   answered-with v s e =
-      record { handedBack = ap answerOf e; part = ap listingOf e; front = ap (λ (r : Result). written (listingOf r) room) e }
+      record {
+        handedBack = ap answerOf e;
+        numbers = ap (λ (r : Result). values (answerOf r)) e;
+        part = ap listingOf e;
+        front = ap (λ (r : Result). written (listingOf r) room) e;
+      }
 
   -- the room is too small, the sheet is refused, or its search ends
   pub call-comes : Comes sheet budget room
@@ -70,31 +77,24 @@ module _ (sheet : List ℕ) (budget : ℕ) (room : List ℕ) where
           let ends = search-comes-to-an-answer sheet p e budget in
           proper large p e (ends .verdict) (ends .state) (ends .is) (answered-with (ends .verdict) (ends .state) (along (accepted p) e large ∙ ap searched (ends .is)))
 
-  -- ── where its answer comes from ──
-
-  -- a refusal is no answer, and an answer is the only one
-  refused-unanswered : (q n : ℕ) → RefusedWith sheet budget room q n → (v : Verdict) → Answers sheet budget room v → ⊥
-  unfolding decimal
-  refused-unanswered q n r v (handsBack c e d) = let z = sym (r .handedBack) ∙ e in apart (cc)
-  refused-unanswered q n r v (lists e) = let z : decimal (take 4 (drop 4 [])) ≡ number (plus (answerNumber v)) = rw (r .part) at e in apart (cc)
-
-  only-answer : (w : Verdict) (s : State) → AnsweredWith sheet budget room w s → (v : Verdict) → Answers sheet budget room v → w ≡ v
-  only-answer w s a v (handsBack c e d) = let z = sym (a .handedBack) ∙ e in cc
-  only-answer w s a v (lists e) = listed-answer w v s (rw (a .part) at e)
-
-  pub answer-from-search : (v : Verdict) → Answers sheet budget room v → FromSearch sheet budget room v
-  answer-from-search v given =
-      elim call-comes [
-        | tooSmall h r ↦ absurd (refused-unanswered 1 0 r v given)
-        | improper h q n d r ↦ absurd (refused-unanswered q n r v given)
-        | proper h p d w s c a ↦ subst (FromSearch sheet budget room) (only-answer w s a v given) (record { problem = p; reads = d; state = s; comes = c; answer = a })
-      ]
-
-  -- a sheet says one problem, whose search that is
-  pub its-search : (p : Problem) → read sheet ≡ accepted p → (v : Verdict) (f : FromSearch sheet budget room v) → search p budget ≡ done v (f .state)
-  its-search p reads v f = let same : p ≡ f .problem = accepted-injective (sym reads ∙ f .reads) in ap (λ (q : Problem). search q budget) same ∙ f .comes
-
 -- ── what the program prints ──
+
+-- the line of a refusal, or what is made of an answer
+module _ (sheet : List ℕ) (budget : ℕ) (made : Result → List ℕ) (bytes : Problem → Verdict → State → List ℕ)
+    (makes : (p : Problem) → read sheet ≡ accepted p → (v : Verdict) (s : State) → made (ended v s) ≡ bytes p v s) where
+  pub prints : Prints bytes sheet budget (printedOf made (answered (read sheet) budget))
+  unfolding printedOf answered searched
+  prints = from (read sheet) refl
+    where
+      from : (r : Reading) → read sheet ≡ r → Prints bytes sheet budget (printedOf made (answered (read sheet) budget))
+      from (refused q n) e = refusalPrinted q n e (rw e refl)
+      from (accepted p) e =
+          let ends = search-comes-to-an-answer sheet p e budget in
+          answerPrinted p e (ends .verdict) (ends .state) (ends .is) (ap (λ (r : Reading). printedOf made (answered r budget)) e ∙ ap (λ (o : Outcome). printedOf made (searched o)) (ends .is) ∙ makes p e (ends .verdict) (ends .state))
+
+pub prints-listing : (sheet : List ℕ) (budget : ℕ) → Prints (λ p v s. listing v s) sheet budget (printed sheet budget)
+unfolding printed listingOf
+prints-listing sheet budget = prints sheet budget listingOf (λ p v s. listing v s) (λ p e v s. refl)
 
 pub printed-listing : (sheet : List ℕ) (p : Problem) → read sheet ≡ accepted p → (budget : ℕ) (v : Verdict) (s : State) → search p budget ≡ done v s
     → printed sheet budget ≡ listing v s

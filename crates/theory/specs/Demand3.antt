@@ -8,7 +8,7 @@ use Rattle.definitions.specs.declared.Verdict.the-variants.{Unsat, Unknown}
 use Rattle.theory.specs.Larger.{Includes, larger-never-unknown, larger-unsatisfiable}
 use Rattle.theory.specs.Limits.{accepted-from-lines}
 use Rattle.theory.specs.Inclusion.{keeps-includes}
-use Rattle.theory.specs.CallLaws.{answer-from-search, its-search}
+use Rattle.theory.specs.CallAnswers.{answer-from-search, its-search}
 
 -- a sheet that some call answers UNSAT, and a second accepted sheet that keeps it
 module _ (first second : List ℕ) (budget : ℕ) (room : List ℕ) (unsat : Answers first budget room Unsat) (accepts : Accepted second) (keeps : Keeps first second) where

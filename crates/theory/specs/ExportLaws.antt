@@ -13,12 +13,12 @@ use Rattle.definitions.specs.Words.{Problem}
 use Rattle.definitions.specs.Questions.{yes, Reading, refused, accepted, read}
 use Rattle.definitions.specs.Search.{State, done, search}
 use Rattle.definitions.specs.Dimacs.{cnfOf, cnfText, readCnf}
-use Rattle.definitions.specs.Call.{Result, refusal, ended, searched, answered, lendings, firstShort, afterLending, result, answerOf, listingOf, written, call, roomAfter, printedOf}
+use Rattle.definitions.specs.Call.{Result, refusal, ended, searched, answered, lendings, firstShort, afterLending, result, answerOf, listingOf, written, call, roomAfter, printedOf, values, Prints}
 use Rattle.definitions.specs.Export.{exportLendings, exportResult, exportOf, exportCall, exportText, roomAfterExport, exportAfter, printedCnf, ExportRefused, Exports, ExportComes, roomTooSmall, exportTooSmall, improperSheet, properSheet}
 use Rattle.definitions.specs.declared.Verdict.{Verdict}
 use Rattle.theory.specs.Tests.{by-test}
 use Rattle.theory.specs.Theorems.{search-comes-to-an-answer}
-use Rattle.theory.specs.CallLaws.{large-room}
+use Rattle.theory.specs.CallLaws.{large-room, prints}
 use Rattle.theory.specs.Exports.{export-round-trip}
 
 -- the questions about what is lent
@@ -65,20 +65,27 @@ module _ (sheet : List ℕ) (budget : ℕ) (room export : List ℕ) where
 
   export-refused : (question line : ℕ) → exportResult sheet budget room export ≡ refusal question line
       → ExportRefused sheet budget room export question line
-  unfolding exportCall exportText roomAfterExport exportAfter answerOf listingOf written
+  unfolding exportCall roomAfterExport exportAfter answerOf listingOf written values
   export-refused question line e =
       record {
         handedBack = ap answerOf e;
+        numbers = ap (λ (r : Result). values (answerOf r)) e;
+        noText = no-text;
         unchanged = ap (λ (r : Result). written (listingOf r) room) e;
-        exportUnchanged = ap (λ t. written t export) (ap (exportOf (read sheet)) e ∙ refused-text (read sheet) question line);
+        exportUnchanged = ap (λ t. written t export) no-text;
       }
+    where
+      no-text : exportText sheet budget room export ≡ []
+      no-text = unfold exportText in ap (exportOf (read sheet)) e ∙ refused-text (read sheet) question line
 
   export-answered : (p : Problem) → read sheet ≡ accepted p → (v : Verdict) (s : State)
       → exportResult sheet budget room export ≡ ended v s → Exports sheet budget room export p v s
-  unfolding exportCall roomAfterExport exportAfter answerOf listingOf written
+  unfolding exportCall roomAfterExport exportAfter answerOf listingOf written values
   export-answered p d v s e =
       record {
         handedBack = ap answerOf e;
+        numbers = ap (λ (r : Result). values (answerOf r)) e;
+        text = text-of-answer p d v s e;
         front = ap (λ (r : Result). written (listingOf r) room) e;
         exportFront = ap (λ t. written t export) (text-of-answer p d v s e);
       }
@@ -134,8 +141,14 @@ module _ (sheet : List ℕ) (budget : ℕ) (room export : List ℕ) where
       ap readCnf (take-append-seam text (drop (length text) export) ∙ text-of-answer p reads v s (result-of-search p reads large wide v s e))
       ∙ export-round-trip sheet p reads budget v s e
 
--- ── so is the text that the program prints ──
+-- ── the text that the program prints ──
 
+pub prints-text : (sheet : List ℕ) (budget : ℕ) → Prints (λ p v s. cnfText (cnfOf (p .clauses) s)) sheet budget (printedCnf sheet budget)
+unfolding printedCnf
+prints-text sheet budget =
+    prints sheet budget (exportOf (read sheet)) (λ p v s. cnfText (cnfOf (p .clauses) s)) (λ p e v s. unfold exportOf in ap (λ (r : Reading). exportOf r (ended v s)) e)
+
+-- it is read back too
 pub printed-read-back : (sheet : List ℕ) (p : Problem) → read sheet ≡ accepted p → (budget : ℕ) (v : Verdict) (s : State) → search p budget ≡ done v s
     → readCnf (printedCnf sheet budget) ≡ yes (cnfOf (p .clauses) s)
 unfolding printedCnf printedOf answered searched exportOf

@@ -31,11 +31,12 @@ pub mod ListedClauses
 pub mod NumberLaws
 pub mod Theorems
 pub mod CallLaws
-pub mod Demand3
 pub mod Quiet
 pub mod CnfText
 pub mod CnfReads
 pub mod CnfRefusals
 pub mod Exports
 pub mod ExportLaws
+pub mod CallAnswers
+pub mod Demand3
 pub mod CarriedLaws
