@@ -15,6 +15,7 @@ pub mod Dimacs
 pub mod Call
 pub mod Export
 pub mod Sheets
+pub mod RefusedLines
 pub mod Carried
 pub mod Supposed
 pub mod Trials
@@ -24,3 +25,4 @@ pub mod TwoWayTrials
 pub mod KeepsTrials
 pub mod DimacsTrials
 pub mod CarriedTrials
+pub mod RefusedLineTrials
