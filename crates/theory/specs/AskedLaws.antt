@@ -1,7 +1,7 @@
--- What an accepted walk over a sheet, a line and its columns says, and that it accepts the same with more constants and more symbols.
--- Assumes nothing.
+-- What an accepted walk over a sheet, a line and its columns says, and a refused one of its questions; and that it accepts the same with
+-- more constants and more symbols. Assumes nothing.
 use Prim.Native.Nat.{ℕ, zero, suc, _-_, _%_, _≤_, _<_}
-use mathlib.Core.Path.{_≡_, refl, ap}
+use mathlib.Core.Path.{_≡_, refl, ap, subst, _∙_}
 use mathlib.Core.Logic.{_⊎_, inl, inr}
 use mathlib.Core.Bool.{Bool, true, false, not, _&&_, _||_}
 use mathlib.Core.List.{List, [], _∷_, _++_}
@@ -12,7 +12,7 @@ use borrow.Author.Tests.{eqb-true, eqb-false, leb-true, le-leb, not-true}
 use Rattle.definitions.specs.Lists.{isEmpty}
 use Rattle.definitions.specs.Bounds.{sheetBytes, longestLine}
 use Rattle.definitions.specs.Words.{constant, Rule, TwoWay, RuleLine, oneWay, twoWay, Problem}
-use Rattle.definitions.specs.Sheet.{lines, Number}
+use Rattle.definitions.specs.Sheet.{lines, Number, plus}
 use Rattle.definitions.specs.Questions.{Asked, no, yes, _>>=_, _>>_, ask, Parsed, within, count, rank, kindOf, ruleArgument, clauseArgument, arguments, literal, literals, patternOf, literalOf, patterns, clauseLiterals, ruleCounts, ruleBehind, twoWayCounts, twoWayBehind, clauseBehind, readClause, goodLength, accepted, readLines, emptyDraft, read}
 use Rattle.definitions.specs.Sheets.{Row, isKind}
 use Rattle.theory.specs.Tests.{by-test, apart, and-left, and-right, and-intro}
@@ -47,6 +47,41 @@ yes-bind m f a b e h = cc
 pub yes-ask : {A : Type 0} (q : ℕ) (t : Bool) (m : Asked A) (a : A) → t ≡ true → m ≡ yes a → (ask q t >> m) ≡ yes a
 unfolding _>>_ ask
 yes-ask q t m a e h = cc
+
+-- ── a question of a refused chain is answered no ──
+
+pub bind-no : {A B : Type 0} (m : Asked A) (f : A → Asked B) (q : ℕ) → (m >>= f) ≡ no q → (m ≡ no q) ⊎ ((a : A) × (m ≡ yes a) × (f a ≡ no q))
+unfolding _>>=_
+bind-no (no p) f q e = inl (cc)
+bind-no (yes a) f q e = inr (a, refl, e)
+
+pub ask-no : {A : Type 0} (q : ℕ) (t : Bool) (m : Asked A) (r : ℕ) → (ask q t >> m) ≡ no r → ((t ≡ false) × (r ≡ q)) ⊎ (m ≡ no r)
+unfolding _>>_ ask
+ask-no q true m r e = inr e
+ask-no q false m r e = inl (refl, (cc))
+
+-- what holds of whatever number a chain is refused with
+abbrev pub Refuses : {A : Type 0} → (ℕ → Type 0) → Asked A → Type 0
+Refuses P m = (q : ℕ) → m ≡ no q → P q
+
+module _ {A : Type 0} (P : ℕ → Type 0) where
+  pub refuses-no : (q : ℕ) → P q → Refuses {A = A} P (no q)
+  refuses-no q h r e = let same : q ≡ r = cc in subst P same h
+
+  pub refuses-yes : (a : A) → Refuses P (yes a)
+  refuses-yes a r e = apart (cc)
+
+  pub refuses-ask : (q : ℕ) (t : Bool) (m : Asked A) → P q → Refuses P m → Refuses P (ask q t >> m)
+  unfolding _>>_ ask
+  refuses-ask q true m p h = h
+  refuses-ask q false m p h = refuses-no q p
+
+  pub refuses-bind : {B : Type 0} (m : Asked B) (f : B → Asked A) → Refuses P m → ((b : B) → Refuses P (f b)) → Refuses P (m >>= f)
+  unfolding _>>=_
+  refuses-bind (no p) f h g r e = h r (cc)
+  refuses-bind (yes b) f h g r e = g b r e
+
+-- ── a sheet, a line, a column ──
 
 -- an accepted sheet is not too long and not empty, and its lines are accepted
 pub accepted-read : (sheet : List ℕ) (p : Problem) → read sheet ≡ accepted p
@@ -114,6 +149,25 @@ count-yes q low high (n ∷ ns) w e =
       least = rw size at l;
       most = rw size at m;
     }
+
+-- the first column is that number, without a minus
+plus-of : (n : Number) → n .negative ≡ false → n ≡ plus (n .size)
+unfolding plus
+plus-of n e = rw (← e) refl
+
+count-column : (q low high : ℕ) (ns : List Number) (w : Parsed ℕ) → count q low high ns ≡ yes w → ns ≡ plus (w .found) ∷ w .left
+count-column q low high ns w e =
+    let c = count-yes q low high ns w e in
+    c .split ∙ ap (λ (n : Number). n ∷ w .left) (plus-of (c .column) (c .sign) ∙ ap plus (c .size))
+
+-- the kind is the first filled column
+pub kind-first : (before : ℕ) (ns : List Number) (k : Parsed ℕ) → kindOf before ns ≡ yes k → ns ≡ plus (k .found) ∷ k .left
+unfolding kindOf
+kind-first zero ns k e = count-column 7 1 1 ns k e
+kind-first (suc before) ns k e =
+    let (j, c, f) = bind-yes (count 7 2 8 ns) _ k e in
+    let (_, same) = ask-yes 7 (leb (rank (j .found)) 4 && leb (rank (suc before)) (rank (j .found))) _ k f in
+    count-column 7 2 8 ns k (c ∙ same)
 
 -- ── more constants and more symbols ──
 

@@ -1,9 +1,9 @@
 -- What a refusal of DIMACS CNF text means: with 21 it begins with no header within the limits, with 22 it begins with one.
 -- Assumes nothing.
 use Prim.Native.Nat.{ℕ, zero, suc, _≤_}
-use mathlib.Core.Path.{_≡_, sym, ap, _∙_}
+use mathlib.Core.Path.{_≡_, refl, sym, ap, _∙_}
 use mathlib.Core.Logic.{_⊎_, inl, inr}
-use mathlib.Core.Bool.{Bool, true, false, _&&_}
+use mathlib.Core.Bool.{Bool, _&&_}
 use mathlib.Core.List.{List, [], _∷_, _++_}
 use native.Mathlib.Omega.{arith}
 use lib.Dec.{eqb, leb}
@@ -13,31 +13,27 @@ use Rattle.definitions.specs.Sheet.{isDigit}
 use Rattle.definitions.specs.Questions.{Asked, no, yes, _>>=_, _>>_, ask}
 use Rattle.definitions.specs.Text.{bytes}
 use Rattle.definitions.specs.Dimacs.{headerLine, Front, expect, expects, decimalAt, Header, headerAt, minusAt, literalAt, closeAt, startsWith, clauseLineAt, clausesAt, readCnf}
-use Rattle.theory.specs.Tests.{by-test, apart}
-use Rattle.theory.specs.AskedLaws.{by-asked}
+use Rattle.theory.specs.Tests.{by-test}
+use Rattle.theory.specs.AskedLaws.{by-asked, Refuses, refuses-no, refuses-yes, refuses-ask, refuses-bind}
 use Rattle.theory.specs.CnfReads.{header-read, header-exact}
 
 -- ── a chain of questions with one number ──
 
 abbrev Only : {A : Type 0} → ℕ → Asked A → Type 0
-Only q m = (r : ℕ) → m ≡ no r → r ≡ q
+Only q m = Refuses (λ r. r ≡ q) m
 
 module _ {A : Type 0} (q : ℕ) where
   only-no : Only {A = A} q (no q)
-  only-no r e = cc
+  only-no = refuses-no (λ r. r ≡ q) q refl
 
   only-yes : (a : A) → Only q (yes a)
-  only-yes a r e = apart (cc)
+  only-yes = refuses-yes (λ r. r ≡ q)
 
   only-ask : (t : Bool) (m : Asked A) → Only q m → Only q (ask q t >> m)
-  unfolding _>>_ ask
-  only-ask true m h r e = h r e
-  only-ask false m h r e = cc
+  only-ask t m = refuses-ask (λ r. r ≡ q) q t m refl
 
   only-bind : {B : Type 0} (m : Asked B) (f : B → Asked A) → Only q m → ((b : B) → Only q (f b)) → Only q (m >>= f)
-  unfolding _>>=_
-  only-bind (no p) f h g r e = h r (cc)
-  only-bind (yes b) f h g r e = g b r e
+  only-bind = refuses-bind (λ r. r ≡ q)
 
 -- ── the parts of a text ──
 

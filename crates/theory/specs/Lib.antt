@@ -22,6 +22,7 @@ pub mod Limits
 pub mod Inclusion
 pub mod Connected
 pub mod BlankColumns
+pub mod FailingLines
 pub mod Sources
 pub mod Invariants
 pub mod ListingLaws
@@ -37,6 +38,7 @@ pub mod CnfReads
 pub mod CnfRefusals
 pub mod Exports
 pub mod ExportLaws
+pub mod RefusedLineLaws
 pub mod CallAnswers
 pub mod Demand3
 pub mod CarriedLaws

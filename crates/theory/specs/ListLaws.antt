@@ -123,6 +123,14 @@ module _ {A : Type 0} (p : A → Bool) where
   all-of [] h = refl
   all-of (y ∷ ys) h = cc (h y (List·Memᴰ·head refl), all-of ys (λ x m. h x (List·Memᴰ·tail m)))
 
+  pub all-fails : (xs : List A) → all p xs ≡ false → (x : A) × (x ∈ xs) × (p x ≡ false)
+  unfolding all
+  all-fails [] h = apart (cc)
+  all-fails (y ∷ ys) h =
+      by-test (p y)
+      (λ e. let (x, m, f) = all-fails ys (cc) in (x, List·Memᴰ·tail m, f))
+      (λ e. (y, List·Memᴰ·head refl, e))
+
   pub filter-of : (xs : List A) (x : A) → x ∈ xs → p x ≡ true → x ∈ filter p xs
   unfolding filter
   filter-of (y ∷ ys) x (List·Memᴰ·head q) h =
