@@ -1,10 +1,21 @@
-/* The solver's calls for C. Link target/staticlib/libinterface.a, which `rt staticlib interface` proves and writes.
-   A call needs about 1.5 MB of stack. Nothing is required of the bytes, the budget or the lengths. */
+/* The solver's calls for C and C++. Link target/staticlib/libinterface.a, which `rt staticlib interface` proves and writes.
+   Nothing is required of the bytes, the budget or the lengths. What a caller owes, and no proof sees:
+   - a pointer is to as many elements as the length behind it says; they hold values, and nothing else writes them during the call. With
+     length 0 any pointer will do, a null pointer too;
+   - rooms, places and arrays, which a call writes, don't overlap each other, nor the sheet or text;
+   - the thread has 2 MB of stack left; a call needs about 1.5 MB. It allocates nothing and keeps nothing. */
 #ifndef THUNYAWORM_H
 #define THUNYAWORM_H
 
 #include <stddef.h>
 #include <stdint.h>
+
+#ifdef __cplusplus
+extern "C" {
+#endif
+
+/* A buffer for a sheet: with one byte more than a sheet may have, a longer one shows. */
+#define THUNYAWORM_SHEET_BUFFER 16385
 
 /* The bytes that a room must have; of a smaller one a call is refused with 1. */
 #define THUNYAWORM_ROOM 45056
@@ -30,6 +41,11 @@ size_t thunyaworm_solve(const uint8_t *sheet, size_t sheet_length, uint32_t budg
 size_t thunyaworm_listing(const uint8_t *sheet, size_t sheet_length, uint32_t budget,
                           uint8_t *room, size_t room_length);
 
+/* What the program prints, the listing or the line of kind 9 of a refusal: leaves it at the front of the room, and hands back how many
+   bytes it has. With a room of fewer than 45,056 bytes nothing is done, and 0 is handed back. */
+size_t thunyaworm_print(const uint8_t *sheet, size_t sheet_length, uint32_t budget,
+                        uint8_t *room, size_t room_length);
+
 /* The export call: leaves the room and fills the places as the first call does, and leaves the goal clauses and then the log as DIMACS
    CNF at the front of the export room; for UNSAT no assignment satisfies them. Hands back how many bytes the text has, 0 for a
    refusal, which changes neither room.
@@ -43,5 +59,9 @@ size_t thunyaworm_export(const uint8_t *sheet, size_t sheet_length, uint32_t bud
    With fewer than 577 starts, 4,608 literals or three places nothing is done, and 0 is handed back. */
 size_t thunyaworm_read_cnf(const uint8_t *text, size_t text_length, uint16_t *starts, size_t starts_length,
                            uint16_t *literals, size_t literals_length, uint64_t *places, size_t places_length);
+
+#ifdef __cplusplus
+}
+#endif
 
 #endif

@@ -1,5 +1,8 @@
-// The solver's calls for Rust: `include!` this file, and link with `-L native=target/staticlib -l static=interface`. What they do,
-// and what they ask of the stack, stands in thunyaworm.h.
+// The solver's calls for Rust, of any edition from 2021 on: `include!` this file, and link with `-L native=target/staticlib
+// -l static=interface`. What they do, and what a caller owes, stands in thunyaworm.h.
+
+// A buffer for a sheet: with one byte more than a sheet may have, a longer one shows.
+pub const THUNYAWORM_SHEET_BUFFER: usize = 16385;
 
 // The bytes that a room must have, and the most values that the first call puts into the places.
 pub const THUNYAWORM_ROOM: usize = 45056;
@@ -11,7 +14,7 @@ pub const THUNYAWORM_CNF_STARTS: usize = 577;
 pub const THUNYAWORM_CNF_LITERALS: usize = 4608;
 pub const THUNYAWORM_CNF_PLACES: usize = 3;
 
-extern "C" {
+unsafe extern "C" {
     pub fn thunyaworm_solve(
         sheet: *const u8,
         sheet_length: usize,
@@ -23,6 +26,16 @@ extern "C" {
     ) -> usize;
 
     pub fn thunyaworm_listing(
+        sheet: *const u8,
+        sheet_length: usize,
+        budget: u32,
+        room: *mut u8,
+        room_length: usize,
+    ) -> usize;
+
+    // What the program prints: hands back how many bytes it has at the front of the room. With a room of fewer than 45,056 bytes nothing
+    // is done, and 0 is handed back.
+    pub fn thunyaworm_print(
         sheet: *const u8,
         sheet_length: usize,
         budget: u32,

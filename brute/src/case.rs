@@ -11,7 +11,7 @@ pub struct Case {
     pub sheet: Vec<u8>,
     pub budget: u32,
     pub room: usize,
-    /// The length of the export room; without one only an UNSAT answer is exported.
+    /// The length of the export room; without one only an UNSAT answer is exported, and nothing is printed.
     pub export: Option<usize>,
 }
 

@@ -73,6 +73,7 @@ pub fn check(case: &Case) -> Result<Same, Vec<String>> {
         return Ok(Same::TooLarge);
     }
     let (first, second) = interface::both_calls(case);
+    let printed = case.export.map(|_| interface::print(case));
     let mut differences = Vec::new();
     let mut carried = Carried::default();
     for length in export_rooms(case, &first) {
@@ -87,6 +88,7 @@ pub fn check(case: &Case) -> Result<Same, Vec<String>> {
                 b"",
                 &mut differences,
             );
+            compare_printed(printed, &printed_refusal(refusal), &mut differences);
             Same::Refused(refusal)
         }
         Expected::Ended {
@@ -97,6 +99,7 @@ pub fn check(case: &Case) -> Result<Same, Vec<String>> {
             ..
         } => {
             compare(&first, &second, &ended.values(), &listing, &mut differences);
+            compare_printed(printed, &listing, &mut differences);
             let by_meaning = compare_meaning(&first, &second, &problem, &mut differences);
             let two_ways = equivalence::check(&case.sheet, &problem).unwrap_or_else(|difference| {
                 differences.push(difference);
@@ -126,11 +129,11 @@ pub fn check(case: &Case) -> Result<Same, Vec<String>> {
 
 /// Does a call of the library tell two cases apart, by what it hands back or by a byte of what is lent?
 pub fn told_apart(one: &Case, other: &Case) -> bool {
-    let exported = |case: &Case| {
+    let others = |case: &Case| {
         case.export
-            .map(|length| interface::export_call(case, length))
+            .map(|length| (interface::export_call(case, length), interface::print(case)))
     };
-    interface::both_calls(one) != interface::both_calls(other) || exported(one) != exported(other)
+    interface::both_calls(one) != interface::both_calls(other) || others(one) != others(other)
 }
 
 /// Both calls against the expected values and the expected front of the room, byte by byte; all other
@@ -142,7 +145,6 @@ fn compare(
     listing: &[u8],
     differences: &mut Vec<String>,
 ) {
-    let length = listing.len();
     if first.values != values {
         differences.push(format!(
             "first call: values {:?}, expected {values:?}",
@@ -153,13 +155,7 @@ fn compare(
         differences.push("first call: places behind the values are changed".into());
     }
     compare_room("first call", &first.room, listing, differences);
-    if second.length != length {
-        differences.push(format!(
-            "second call: length {}, expected {length}",
-            second.length
-        ));
-    }
-    compare_room("second call", &second.room, listing, differences);
+    compare_listed("second call", second, listing, differences);
     if first.values.len() == 5 {
         let told = told::first_line(second.room.front(second.length));
         let agrees = told.is_some_and(|told| told[..] == first.values[..]);
@@ -169,6 +165,30 @@ fn compare(
                 first.values
             ));
         }
+    }
+}
+
+/// A call that hands back how many bytes it has written at the room's front.
+fn compare_listed(call: &str, listed: &Listed, written: &[u8], differences: &mut Vec<String>) {
+    let (length, expected) = (listed.length, written.len());
+    if length != expected {
+        differences.push(format!("{call}: length {length}, expected {expected}"));
+    }
+    compare_room(call, &listed.room, written, differences);
+}
+
+/// The call for what the program prints, if it was made.
+fn compare_printed(printed: Option<Listed>, written: &[u8], differences: &mut Vec<String>) {
+    if let Some(printed) = printed {
+        compare_listed("print call", &printed, written, differences);
+    }
+}
+
+/// What is printed of a refusal into a room: its line, but nothing where the room is too small.
+fn printed_refusal(refusal: Refusal) -> Vec<u8> {
+    match refusal.number {
+        1 => Vec::new(),
+        _ => listing::refusal_line(refusal),
     }
 }
 

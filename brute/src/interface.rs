@@ -72,7 +72,7 @@ pub struct Solved {
     pub room: Room,
 }
 
-/// What the second call hands back.
+/// What the second call hands back, and the one for what the program prints.
 #[derive(PartialEq)]
 pub struct Listed {
     pub length: usize,
@@ -125,12 +125,24 @@ pub fn need_their_places(case: &Case) -> bool {
 }
 
 fn listing(case: &Case) -> Listed {
+    into_room("second call", case, thunyaworm_listing)
+}
+
+/// The call for what the program prints.
+pub fn print(case: &Case) -> Listed {
+    into_room("print call", case, thunyaworm_print)
+}
+
+type IntoRoom = unsafe extern "C" fn(*const u8, usize, u32, *mut u8, usize) -> usize;
+
+/// A call that hands back how many bytes at the front of a room it has written.
+fn into_room(name: &'static str, case: &Case, call: IntoRoom) -> Listed {
     let mut room = room(case.room, true);
     let lent = room.lent();
-    let length = watch::watched("second call", case, || {
+    let length = watch::watched(name, case, || {
         // SAFETY: each pointer comes from a slice and goes with that slice's length.
         unsafe {
-            thunyaworm_listing(
+            call(
                 case.sheet.as_ptr(),
                 case.sheet.len(),
                 case.budget,

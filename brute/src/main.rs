@@ -45,9 +45,8 @@ mod watch;
 use case::{printable, Case, InWords, Reading};
 use check::Same;
 use ended::Verdict;
-use interface::{THUNYAWORM_EXPORT, THUNYAWORM_ROOM};
+use interface::{THUNYAWORM_EXPORT, THUNYAWORM_ROOM, THUNYAWORM_SHEET_BUFFER};
 use random::Random;
-use reader::SHEET;
 use std::io;
 use std::path::Path;
 use std::process::ExitCode;
@@ -171,7 +170,7 @@ fn edges() -> Vec<String> {
         b"       1       1    \n".to_vec(),
         b"    \n".to_vec(),
         Vec::new(),
-        vec![b' '; SHEET + 1],
+        vec![b' '; THUNYAWORM_SHEET_BUFFER],
     ];
     for sheet in sheets {
         let (room, export) = (THUNYAWORM_ROOM, THUNYAWORM_EXPORT);

@@ -98,6 +98,10 @@ printedOf made unended = made unended
 unfoldable pub printed : List ℕ → ℕ → List ℕ
 printed sheet budget = printedOf listingOf (answered (read sheet) budget)
 
+-- the same at the front of a lent room; nothing where a question about what is lent is answered no
+unfoldable pub printedPart : List ℕ → ℕ → List ℕ → List ℕ
+printedPart sheet budget room = elim (firstShort (lendings (length room))) [ none ↦ printed sheet budget | some q ↦ [] ]
+
 -- this paper's number and values of each case: number and line, or the answer's number and the four counts
 unfoldable pub values : Answer → List ℕ
 values (Refused r) = r .number ∷ r .line ∷ []
@@ -151,5 +155,5 @@ pub data Prints (made : Problem → Verdict → State → List ℕ) (sheet : Lis
 
 -- names every definition of this module, for a theorem that computes with all of them
 unfoldable pub Call·all : Unit {0}
-unfolding searched answered lendings firstShort afterLending result answerOf listingOf written call listedPart roomAfter printedOf printed values
+unfolding searched answered lendings firstShort afterLending result answerOf listingOf written call listedPart roomAfter printedOf printed printedPart values
 Call·all = tt

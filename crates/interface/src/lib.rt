@@ -6,7 +6,7 @@ ghost use mathlib.Core.Path.{_≡_};
 ghost use mathlib.Core.List.{[]};
 ghost use lib.ListN.{length};
 ghost use lib.Seq.{sets};
-ghost use Rattle.definitions.specs.Call.{call, listedPart, roomAfter, values as valuesOf};
+ghost use Rattle.definitions.specs.Call.{call, listedPart, roomAfter, written, printedPart, values as valuesOf};
 ghost use Rattle.interface.specs.Handed.{lentOr, fivePlaces};
 use definitions::Answer;
 
@@ -65,4 +65,15 @@ pub extern "C" fn thunyaworm_listing(sheet: &[u8], budget: u32, room: &mut [u8])
 {
     let listed = solver::list(sheet, budget, room);
     listed
+}
+
+// What the program prints for a sheet, the listing or the line of a refusal: how many bytes at the front of the room hold it. With a room
+// of fewer than 45,056 bytes nothing is done, and 0 is handed back.
+#[no_mangle]
+pub extern "C" fn thunyaworm_print(sheet: &[u8], budget: u32, room: &mut [u8]) -> usize
+    ensures { λ r. ⌜ (r ≡ length (printedPart (now (sheet .entry)) budget (now (room .entry))))
+        × (now (room .exit) ≡ written (printedPart (now (sheet .entry)) budget (now (room .entry))) (now (room .entry))) ⌝ }
+{
+    let printed = solver::print(sheet, budget, room);
+    printed
 }

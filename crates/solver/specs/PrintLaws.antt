@@ -11,7 +11,7 @@ use Rattle.definitions.specs.Lists.{joined}
 use Rattle.definitions.specs.Sheet.{plus}
 use Rattle.definitions.specs.Questions.{read}
 use Rattle.definitions.specs.Listing.{fieldBytes, lineBytes, narrow, refusalLine}
-use Rattle.definitions.specs.Call.{Result, refusal, ended, unended, lendings, result, answerOf, listingOf, written, printedOf, printed}
+use Rattle.definitions.specs.Call.{Result, refusal, ended, unended, lendings, result, answerOf, listingOf, written, printedOf, printed, printedPart}
 use Rattle.definitions.specs.Export.{exportLendings, exportResult, exportOf, printedCnf}
 use Rattle.definitions.specs.declared.Refusal.{Refusal}
 use Rattle.definitions.specs.declared.Counts.{Counts}
@@ -19,7 +19,7 @@ use Rattle.definitions.specs.declared.Answer.{Answer}
 use Rattle.definitions.specs.declared.Answer.the-variants.{Refused, Answered}
 use Rattle.theory.specs.Tests.{apart}
 use Rattle.theory.specs.Theorems.{call-comes-to-an-end}
-use Rattle.theory.specs.CallLaws.{large-room}
+use Rattle.theory.specs.CallLaws.{large-room, large-part}
 use Rattle.theory.specs.ExportLaws.{enough-lent}
 use Rattle.column.specs.Sets.{sets-front}
 use Rattle.column.specs.Widths.{narrow-length}
@@ -86,9 +86,9 @@ unfolding listingOf
 unlisted q n = refl
 
 -- where enough is lent, the program's result is the call's
-pub printed-result : (sheet : List ℕ) (budget : ℕ) (room : List ℕ) → roomBytes ≤ length room → printed sheet budget ≡ printedOf listingOf (result sheet budget room)
+pub printed-result : (sheet : List ℕ) (budget : ℕ) (room : List ℕ) → roomBytes ≤ length room → printedPart sheet budget room ≡ printedOf listingOf (result sheet budget room)
 unfolding printed
-printed-result sheet budget room large = ap (printedOf listingOf) (sym (large-room sheet budget room large))
+printed-result sheet budget room large = large-part sheet budget room large ∙ ap (printedOf listingOf) (sym (large-room sheet budget room large))
 
 pub printed-export : (sheet : List ℕ) (budget : ℕ) (room export : List ℕ) → roomBytes ≤ length room → exportBytes ≤ length export
     → printedCnf sheet budget ≡ printedOf (exportOf (read sheet)) (exportResult sheet budget room export)

@@ -5,7 +5,7 @@ mod lent; // lent.rt: the questions about what is lent
 ghost use mathlib.Core.Path.{_≡_};
 ghost use mathlib.Core.List.{[]};
 ghost use lib.ListN.{length};
-ghost use Rattle.definitions.specs.Call.{result, call, listedPart, roomAfter, written, printed};
+ghost use Rattle.definitions.specs.Call.{result, call, listedPart, roomAfter, written, printedPart};
 ghost use Rattle.definitions.specs.Export.{exportCall, exportText, roomAfterExport, exportAfter, printedCnf};
 ghost use Rattle.answering.specs.Solving.{SolvedAs};
 use answering::Solved;
@@ -65,15 +65,20 @@ pub fn solve_listing<'a, 'b>(sheet: &'b [u8], budget: u32, room: &'a mut [u8]) -
     &mut room[..length]
 }
 
-// What the program prints for a sheet, at the front of the room: the listing, or the line of a refusal. How many bytes it has.
-pub fn print(sheet: &[u8], budget: u32, room: &mut [u8; ROOM]) -> usize
-    ensures { λ r. ⌜ (r ≡ length (printed (now (sheet .entry)) budget)) × (now (room .exit) ≡ written (printed (now (sheet .entry)) budget) (now (room .entry))) ⌝ }
+// What the program prints for a sheet, at the front of the room: the listing, or the line of a refusal. How many bytes it has. With a
+// room that is too small nothing is done, and 0 is handed back.
+pub fn print(sheet: &[u8], budget: u32, room: &mut [u8]) -> usize
+    ensures { λ r. ⌜ (r ≡ length (printedPart (now (sheet .entry)) budget (now (room .entry))))
+        × (now (room .exit) ≡ written (printedPart (now (sheet .entry)) budget (now (room .entry))) (now (room .entry))) ⌝ }
 {
+    if room.len() < ROOM {
+        return 0;
+    }
     let solved = solve_both(sheet, budget, room);
     let answer = solved.answer;
     match answer {
-        Answer::Answered(_) => solved.length,
         Answer::Refused(refusal) => listing::put_refusal(room, refusal.number, refusal.line),
+        Answer::Answered(_) => solved.length,
     }
 }
 

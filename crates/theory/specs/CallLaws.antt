@@ -11,7 +11,7 @@ use Rattle.definitions.specs.Words.{Problem}
 use Rattle.definitions.specs.Questions.{Reading, refused, accepted, read}
 use Rattle.definitions.specs.Search.{State, Outcome, done, search}
 use Rattle.definitions.specs.Listing.{listing}
-use Rattle.definitions.specs.Call.{Result, refusal, ended, searched, answered, lendings, firstShort, afterLending, result, answerOf, listingOf, written, call, listedPart, roomAfter, printedOf, printed, values, RefusedWith, AnsweredWith, Comes, tooSmall, improper, proper, Prints, refusalPrinted, answerPrinted}
+use Rattle.definitions.specs.Call.{Result, refusal, ended, searched, answered, lendings, firstShort, afterLending, result, answerOf, listingOf, written, call, listedPart, roomAfter, printedOf, printed, printedPart, values, RefusedWith, AnsweredWith, Comes, tooSmall, improper, proper, Prints, refusalPrinted, answerPrinted}
 use Rattle.definitions.specs.declared.Verdict.{Verdict}
 use Rattle.theory.specs.Tests.{by-test}
 use Rattle.theory.specs.Theorems.{search-comes-to-an-answer}
@@ -100,3 +100,13 @@ pub printed-listing : (sheet : List ℕ) (p : Problem) → read sheet ≡ accept
     → printed sheet budget ≡ listing v s
 unfolding printed printedOf answered searched listingOf
 printed-listing sheet p reads budget v s e = rw (reads, e) refl
+
+-- at the front of a room
+module _ (sheet : List ℕ) (budget : ℕ) (room : List ℕ) where
+  pub small-part : length room < roomBytes → printedPart sheet budget room ≡ []
+  unfolding printedPart
+  small-part h = rw (short-room (length room) h, printedPart)
+
+  pub large-part : roomBytes ≤ length room → printedPart sheet budget room ≡ printed sheet budget
+  unfolding printedPart
+  large-part h = rw (enough-room (length room) h, printedPart)

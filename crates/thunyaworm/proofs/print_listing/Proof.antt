@@ -18,15 +18,18 @@ array-share-prefix-sheet c = search needs
 slice-aggregate-print : tie.Need-slice-aggregate-print
 slice-aggregate-print c = search needs
 
+slice-aggregate-print-2 : tie.Need-slice-aggregate-print-2
+slice-aggregate-print-2 c = search needs
+
 print-requires : tie.Need-print-requires
 print-requires c κs = search needs
 
 array-share-prefix-room : tie.Need-array-share-prefix-room
-array-share-prefix-room c = written-fits _ _ (c .print .ensures .0) (c .print .ensures .1)
+array-share-prefix-room c = written-fits _ _ (c .before .print .ensures .0) (c .before .print .ensures .1)
 
 slice-aggregate-write-all : tie.Need-slice-aggregate-write-all
 slice-aggregate-write-all c =
-    let e = c .before .print in
+    let e = c .before .before .print in
     sym (length-take-le (e .result) (e .last .1 .1 .0) (written-fits _ _ (e .ensures .0) (e .ensures .1)))
 
 write-all-requires : tie.Need-write-all-requires
@@ -43,6 +46,7 @@ print-listing-spec =
     read-full-requires
     array-share-prefix-sheet
     slice-aggregate-print
+    slice-aggregate-print-2
     print-requires
     array-share-prefix-room
     slice-aggregate-write-all
