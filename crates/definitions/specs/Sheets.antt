@@ -12,7 +12,7 @@ use Rattle.definitions.specs.Instances.{occursIn}
 use Rattle.definitions.specs.Sheet.{Line, lines, Number, plus, number, decimal}
 use Rattle.definitions.specs.Questions.{Asked, no, yes, columns, goodLength, accepted, read}
 use Rattle.definitions.specs.Listing.{answerNumber}
-use Rattle.definitions.specs.Call.{call, listedPart}
+use Rattle.definitions.specs.Call.{call, listedPart, printedPart}
 use Rattle.definitions.specs.Export.{exportCall}
 use Rattle.definitions.specs.declared.Verdict.{Verdict}
 use Rattle.definitions.specs.declared.Counts.{Counts}
@@ -24,10 +24,13 @@ pub record Accepted (sheet : List ℕ) : Type 0 where
   pub reads : read sheet ≡ accepted problem
 
 -- a call "answers" a sheet with one of the four if it hands back that answer, or if it is in the second column of the listing that it hands
--- back; a case for each call that is lent a room: the two calls, and the export (2/14) with a further room
+-- back; a case for each call that does: the two calls, the one that prints, where the line is of kind 5 and no refusal's, and the export (2/14)
+-- with a further room
 pub data Answers (sheet : List ℕ) (budget : ℕ) (room : List ℕ) (v : Verdict) : Type 0 where
   handsBack : (c : Counts) → call sheet budget room ≡ Answered c → c .verdict ≡ v → Answers sheet budget room v
   lists : decimal (take 4 (drop 4 (listedPart sheet budget room))) ≡ number (plus (answerNumber v)) → Answers sheet budget room v
+  prints : decimal (take 4 (printedPart sheet budget room)) ≡ number (plus 5)
+      → decimal (take 4 (drop 4 (printedPart sheet budget room))) ≡ number (plus (answerNumber v)) → Answers sheet budget room v
   exportHandsBack : (export : List ℕ) (c : Counts) → exportCall sheet budget room export ≡ Answered c → c .verdict ≡ v → Answers sheet budget room v
 
 -- the filled columns of a line

@@ -21,7 +21,7 @@ use Rattle.definitions.specs.Listing.{Listing·all}
 use Rattle.definitions.specs.Text.{text, Text·all}
 use Rattle.definitions.specs.Call.{Call·all}
 use Rattle.definitions.specs.Export.{Export·all}
-use Rattle.definitions.specs.Sheets.{Accepted, Answers, handsBack, lists, exportHandsBack, Keeps, FilledAlike, Sheets·all}
+use Rattle.definitions.specs.Sheets.{Accepted, Answers, handsBack, lists, prints, exportHandsBack, Keeps, FilledAlike, Sheets·all}
 use Rattle.definitions.specs.Carried.{NumberAssignment, SatisfiesNumberClauses}
 use Rattle.definitions.specs.declared.Verdict.the-variants.{Unsat}
 
@@ -76,6 +76,10 @@ handed-back = handsBack _ refl refl
 pub listed : Answers broken 7 (replicate roomBytes 0) Unsat
 unfolding broken Text·all Lists·all Words·all Instances·all Sheet·all Questions·all Search·all Listing·all Call·all
 listed = lists refl
+
+pub is-printed : Answers broken 7 (replicate roomBytes 0) Unsat
+unfolding broken Text·all Lists·all Words·all Instances·all Sheet·all Questions·all Search·all Listing·all Call·all
+is-printed = prints refl refl
 
 pub handed-back-by-export : Answers broken 7 (replicate roomBytes 0) Unsat
 unfolding broken Text·all Lists·all Words·all Instances·all Sheet·all Questions·all Search·all Listing·all Call·all Export·all

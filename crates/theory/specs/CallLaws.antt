@@ -2,7 +2,7 @@
 use Prim.Native.Nat.{ℕ, _≤_, _<_}
 use mathlib.Core.Path.{_≡_, refl, ap, _∙_}
 use mathlib.Core.Option.{none, some}
-use mathlib.Core.List.{List}
+use mathlib.Core.List.{List, []}
 use lib.Dec.{leb}
 use lib.ListN.{length}
 use borrow.Author.Tests.{le-leb, lt-leb, leb-true, leb-false}
@@ -10,7 +10,7 @@ use Rattle.definitions.specs.Bounds.{roomBytes}
 use Rattle.definitions.specs.Words.{Problem}
 use Rattle.definitions.specs.Questions.{Reading, refused, accepted, read}
 use Rattle.definitions.specs.Search.{State, Outcome, done, search}
-use Rattle.definitions.specs.Listing.{listing}
+use Rattle.definitions.specs.Listing.{listing, refusalLine}
 use Rattle.definitions.specs.Call.{Result, refusal, ended, searched, answered, lendings, firstShort, afterLending, result, answerOf, listingOf, written, call, listedPart, roomAfter, printedOf, printed, printedPart, values, RefusedWith, AnsweredWith, Comes, tooSmall, improper, proper, Prints, refusalPrinted, answerPrinted}
 use Rattle.definitions.specs.declared.Verdict.{Verdict}
 use Rattle.theory.specs.Tests.{by-test}
@@ -95,6 +95,10 @@ module _ (sheet : List ℕ) (budget : ℕ) (made : Result → List ℕ) (bytes :
 pub prints-listing : (sheet : List ℕ) (budget : ℕ) → Prints (λ p v s. listing v s) sheet budget (printed sheet budget)
 unfolding printed listingOf
 prints-listing sheet budget = prints sheet budget listingOf (λ p v s. listing v s) (λ p e v s. refl)
+
+pub printed-refusal : (sheet : List ℕ) (q n : ℕ) → read sheet ≡ refused q n → (budget : ℕ) → printed sheet budget ≡ refusalLine q n
+unfolding printed printedOf answered
+printed-refusal sheet q n reads budget = rw reads refl
 
 pub printed-listing : (sheet : List ℕ) (p : Problem) → read sheet ≡ accepted p → (budget : ℕ) (v : Verdict) (s : State) → search p budget ≡ done v s
     → printed sheet budget ≡ listing v s
