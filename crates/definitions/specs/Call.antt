@@ -57,13 +57,13 @@ unfoldable pub result : List ℕ → ℕ → List ℕ → Result
 result sheet budget room = afterLending (lendings (length room)) sheet budget
 
 -- "which of the four it is and the counts of atoms, logged clauses, decisions and conflicts"
-abbrev pub countsOf : Verdict → State → Counts
-countsOf v s = record { verdict = v; atoms = length (s .table); logged = length (s .log); decisions = s .decisions; conflicts = s .conflicts }
+abbrev pub recordOf : Verdict → State → Counts
+recordOf v s = record { verdict = v; atoms = length (s .table); logged = length (s .log); decisions = s .decisions; conflicts = s .conflicts }
 
 -- what the call hands back
 unfoldable pub answerOf : Result → Answer
 answerOf (refusal q n) = Refused (record { number = q; line = n })
-answerOf (ended v s) = Answered (countsOf v s)
+answerOf (ended v s) = Answered (recordOf v s)
 answerOf unended = Refused (record { number = 0; line = 0 })
 
 -- the listing; a refusal has none
@@ -108,8 +108,8 @@ values (Refused r) = r .number ∷ r .line ∷ []
 values (Answered c) = answerNumber (c .verdict) ∷ c .atoms ∷ c .logged ∷ c .decisions ∷ c .conflicts ∷ []
 
 -- the latter for a search that ended in a state
-abbrev pub numbersOf : Verdict → State → List ℕ
-numbersOf v s = answerNumber v ∷ length (s .table) ∷ length (s .log) ∷ s .decisions ∷ s .conflicts ∷ []
+abbrev pub answerValues : Verdict → State → List ℕ
+answerValues v s = answerNumber v ∷ length (s .table) ∷ length (s .log) ∷ s .decisions ∷ s .conflicts ∷ []
 
 -- ── what a call comes to ──
 
@@ -124,8 +124,8 @@ module _ (sheet : List ℕ) (budget : ℕ) (room : List ℕ) where
   -- "otherwise which of the four it is and the counts" of the search's last state; the second call hands back "the front part of the
   -- lent room that holds the listing" of that state: log, setting and counts; either "leaves the bytes behind the listing unchanged"
   pub record AnsweredWith (v : Verdict) (s : State) : Type 0 where
-    pub handedBack : call sheet budget room ≡ Answered (countsOf v s)
-    pub numbers : values (call sheet budget room) ≡ numbersOf v s
+    pub handedBack : call sheet budget room ≡ Answered (recordOf v s)
+    pub numbers : values (call sheet budget room) ≡ answerValues v s
     pub part : listedPart sheet budget room ≡ listing v s
     pub front : roomAfter sheet budget room ≡ listing v s ++ drop (length (listing v s)) room
 

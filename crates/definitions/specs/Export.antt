@@ -10,7 +10,7 @@ use Rattle.definitions.specs.Questions.{Reading, refused, accepted, read
 use Rattle.definitions.specs.Search.{State, done, search}
 use Rattle.definitions.specs.Listing.{listing}
 use Rattle.definitions.specs.Dimacs.{cnfOf, cnfText}
-use Rattle.definitions.specs.Call.{Result, refusal, ended, unended, answered, Lending, lendings, afterLending, countsOf, answerOf, listingOf, written, printedOf, values, numbersOf}
+use Rattle.definitions.specs.Call.{Result, refusal, ended, unended, answered, Lending, lendings, afterLending, recordOf, answerOf, listingOf, written, printedOf, values, answerValues}
 use Rattle.definitions.specs.declared.Verdict.{Verdict}
 use Rattle.definitions.specs.declared.Answer.{Answer}
 use Rattle.definitions.specs.declared.Answer.the-variants.{Refused, Answered}
@@ -64,8 +64,8 @@ module _ (sheet : List ℕ) (budget : ℕ) (room export : List ℕ) where
   -- "hands back the record and leaves the listing room as the first call does"; the text stands at the front of the export room, and
   -- "bytes behind the text are unchanged"
   pub record Exports (p : Problem) (v : Verdict) (s : State) : Type 0 where
-    pub handedBack : exportCall sheet budget room export ≡ Answered (countsOf v s)
-    pub numbers : values (exportCall sheet budget room export) ≡ numbersOf v s
+    pub handedBack : exportCall sheet budget room export ≡ Answered (recordOf v s)
+    pub numbers : values (exportCall sheet budget room export) ≡ answerValues v s
     pub text : exportText sheet budget room export ≡ cnfText (cnfOf (p .clauses) s)
     pub front : roomAfterExport sheet budget room export ≡ listing v s ++ drop (length (listing v s)) room
     pub exportFront : exportAfter sheet budget room export ≡ cnfText (cnfOf (p .clauses) s) ++ drop (length (cnfText (cnfOf (p .clauses) s))) export

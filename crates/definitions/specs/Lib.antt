@@ -17,6 +17,7 @@ pub mod Export
 pub mod Sheets
 pub mod RefusedLines
 pub mod Carried
+pub mod Models
 pub mod Supposed
 pub mod Trials
 pub mod Refusals
@@ -26,3 +27,4 @@ pub mod KeepsTrials
 pub mod DimacsTrials
 pub mod CarriedTrials
 pub mod RefusedLineTrials
+pub mod ModelTrials

@@ -61,15 +61,15 @@ module _ (made : Result → List ℕ) (nothing : (q n : ℕ) → made (refusal q
   module _ (came : Result) (ends : came ≡ unended → ⊥) (room : List ℕ) (enough : 13 ≤ length room) {answer : Answer} {size : ℕ} {after : List ℕ}
       (its-answer : answer ≡ answerOf came) (its-size : size ≡ length (made came)) (stored : after ≡ written (made came) room) where
     -- the bytes are printed into the room
-    abbrev pub Prints : ℕ → List ℕ → Type 0
-    Prints n last = (n ≡ length (printedOf made came)) × (last ≡ written (printedOf made came) room)
+    abbrev pub PrintedInto : ℕ → List ℕ → Type 0
+    PrintedInto n last = (n ≡ length (printedOf made came)) × (last ≡ written (printedOf made came) room)
 
-    pub print-answer : (c : Counts) → answer ≡ Answered c → Prints size after
+    pub print-answer : (c : Counts) → answer ≡ Answered c → PrintedInto size after
     print-answer c e =
         let same : made came ≡ printedOf made came = sym (answered-printed came c (sym its-answer ∙ e)) in
         (its-size ∙ ap length same, stored ∙ ap (λ (bytes : List ℕ). written bytes room) same)
 
-    pub print-refusal : (f : Refusal) → answer ≡ Refused f → (n : ℕ) (last : List ℕ) → Put after 0 (refusalLine (f .number) (f .line)) n last → Prints n last
+    pub print-refusal : (f : Refusal) → answer ≡ Refused f → (n : ℕ) (last : List ℕ) → Put after 0 (refusalLine (f .number) (f .line)) n last → PrintedInto n last
     unfolding written
     print-refusal f e n last put =
         let bytes = refusalLine (f .number) (f .line) in

@@ -21,22 +21,27 @@ use Rattle.definitions.specs.Questions.{Asked, no, yes, columns, connected, has
 use Rattle.definitions.specs.Search.{Trail, isTrue, Logged, clauseOf, notFalse, actOn, isGoal, loggedAct, nextAct, State, clausesOf, start, done, cameTo, run, search}
 use Rattle.definitions.specs.LiteralTest.{literalTest, TellsApart}
 use Rattle.definitions.specs.ClauseNumbers.{clauseNumbers, mayAct, nextActAmong}
-use Rattle.definitions.specs.Verdicts.{FirstChoice, SpentWhen, FullWhen}
-use Rattle.definitions.specs.Listing.{listing}
+use Rattle.definitions.specs.Verdicts.{setting, FirstChoice, SpentWhen, FullWhen}
+use Rattle.definitions.specs.Listing.{settings, listing}
 use Rattle.definitions.specs.Text.{bytes}
 use Rattle.definitions.specs.Dimacs.{Cnf, cnfOf, headerLine, cnfText, readCnf, CnfLimits}
 use Rattle.definitions.specs.Call.{Lending, afterLending, call, listedPart, roomAfter, printed, Comes, FromSearch, Prints}
 use Rattle.definitions.specs.Export.{exportCall, exportText, roomAfterExport, exportAfter, printedCnf, ExportComes}
 use Rattle.definitions.specs.Sheets.{Accepted, Answers, Row, ofKind, Keeps, passes, FilledAlike, blankColumn, isBlank, HeadAmong, Shares, Apart}
+use Rattle.definitions.specs.RefusedLines.{RefusedAt, HeadApart, FreeVariable}
 use Rattle.definitions.specs.Carried.{clauseOn, Entailed, NumberAssignment, SatisfiesNumberClauses, Unsatisfiable}
+use Rattle.definitions.specs.Models.{listedLiterals, listedSetting, SaysUnknown, IsUnknown, saidByRules, positiveHeads, namedHeads, listedHeads}
 use Rattle.definitions.specs.declared.Verdict.{Verdict}
 use Rattle.definitions.specs.declared.Verdict.the-variants.{Unsat, Unknown, Spent, Full}
 use Rattle.definitions.specs.declared.Counts.{Counts}
-use Rattle.definitions.specs.declared.Answer.the-variants.{Answered}
+use Rattle.definitions.specs.declared.Refusal.{Refusal}
+use Rattle.definitions.specs.declared.Answer.the-variants.{Refused, Answered}
 use Rattle.definitions.specs.Supposed.{its-accepted, allButP, its-satisfied, both-earlier, broken, handed-back, larger, larger-accepted, larger-keeps, plainly, withBlanks, filled-alike, longer, numbers-satisfied}
 use Rattle.definitions.specs.Supposed
 use Rattle.definitions.specs.TwoWayTrials.{freeSheet, freeProblem, free-read, bodyAlone, clauses-satisfied, rules-satisfied, equivalence-broken}
 use Rattle.definitions.specs.CarriedTrials.{bothSheet, bothProblem, both-read, bothState, both-ends, bothCounts, both-begins, two-logged, allBut, each-needed, firstRow, first-follows, first-listed, two-in-body, first-satisfied, filling-broken}
+use Rattle.definitions.specs.RefusedLineTrials.{sheetWith, apartLine, apart-refused, keptApartLine, kept-apart-refused, freeLine, free-refused, blankLine, blank-refused}
+use Rattle.definitions.specs.ModelTrials.{plates, plates-two-way, namedAtom, unnamedAtom, openAtom, noReverse, open-unsatisfied, reverse-unsatisfied}
 use Rattle.theory.specs.Theorems.{unsat, unknown, spent, full, decisions-at-most-the-budget, conflicts-at-most-one-more, logged-once}
 use Rattle.theory.specs.InstanceLaws.{substitution-complete, every-filling, only-fillings}
 use Rattle.theory.specs.SearchLaws.{clause-once, heads-once}
@@ -51,11 +56,14 @@ use Rattle.theory.specs.NumberLaws.{search-asking}
 use Rattle.theory.specs.Demand3.{never-satisfied, never-unknown}
 use Rattle.theory.specs.Connected.{connected-heads, head-apart}
 use Rattle.theory.specs.BlankColumns.{nothing-blank, passed-over, blank-line, same-reading, same-accepted, same-results, same-keeps}
+use Rattle.theory.specs.FailingLines.{fails-4-to-14, fails-12, fails-14}
 use Rattle.theory.specs.CnfReads.{cnf-round-trip, cnf-exact}
 use Rattle.theory.specs.CnfRefusals.{cnf-refusals, bad-header, good-header}
 use Rattle.theory.specs.Exports.{export-limits, export-size}
 use Rattle.theory.specs.ExportLaws.{export-comes, export-as-first-call, exported-read-back, prints-text}
+use Rattle.theory.specs.RefusedLineLaws.{blank-fails-7, call-refused-at, call-no-line, call-14, refused-at-call, export-refused-at, export-no-line, export-14, refused-at-export}
 use Rattle.theory.specs.CarriedLaws.{unsat-carried, exported-carried, printed-carried, table-decides, numbers-decide, listed-follows, printed-follows, satisfies-clauses, exported-refutes, printed-refutes, both-answered, both-export-answered}
+use Rattle.theory.specs.ModelLaws.{unknown-settings, is-unknown, model-listed, model-positive, model-named}
 use Rattle.encoding.specs.Encoding.{literalWord, sizesOf}
 use Rattle.encoding.specs.Values.{Values, goalsSet, goalsTrue, literalValue}
 use Rattle.encoding.specs.Standing.{Valued, GoalWords}
@@ -82,6 +90,44 @@ module _ (sheet : List ℕ) (budget : ℕ) (room : List ℕ) where
   pub demand-1-printed : Prints (λ p v s. listing v s) sheet budget (printed sheet budget)
   demand-1-printed = prints-listing sheet budget
 
+  -- A refusal with a line from 1 on speaks of that line: every line before it passes all its questions, and the number is that of the
+  -- first question that it fails.
+  pub demand-1-line : (r : Refusal) → call sheet budget room ≡ Refused r → 1 ≤ r .line → RefusedAt sheet (r .number) (r .line)
+  demand-1-line = call-refused-at sheet budget room
+
+  -- Where this is so of a line, it is refused with that number, if the room is large enough.
+  pub demand-1-line-back : roomBytes ≤ length room → (question line : ℕ) → RefusedAt sheet question line
+      → call sheet budget room ≡ Refused (record { number = question; line = line })
+  demand-1-line-back = refused-at-call sheet budget room
+
+  -- With line 0 the room is too small, or the sheet is too long, or it has no byte.
+  pub demand-1-no-line : (r : Refusal) → call sheet budget room ≡ Refused r → r .line ≡ 0
+      → ((r .number ≡ 1) × (length room < roomBytes)) ⊎ (((r .number ≡ 2) × (sheetBytes < length sheet)) ⊎ ((r .number ≡ 3) × (sheet ≡ [])))
+  demand-1-no-line = call-no-line sheet budget room
+
+-- What a refusal says of its line, whichever call it comes from:
+module _ (sheet : List ℕ) (question line : ℕ) (x : RefusedAt sheet question line) where
+  -- the number is one from 4 to 14;
+  pub demand-1-numbers : (4 ≤ question) × (question ≤ 14)
+  demand-1-numbers = fails-4-to-14 (x .draft) (x .failing) question (x .fails)
+
+  -- it is 7 for a line of blanks that passes 4 and 5;
+  pub demand-1-blank : passes (x .failing) ≡ true → isBlank (x .failing .bytes) ≡ true → question ≡ 7
+  demand-1-blank = blank-fails-7 (x .draft) (x .failing) question (x .fails)
+
+  -- with 12 a body variable of the rule on the line stands in no head;
+  pub demand-1-restricted : question ≡ 12 → FreeVariable (x .draft) (x .failing)
+  demand-1-restricted is = fails-12 (x .draft) (x .failing) (x .fails ∙ ap no is)
+
+  -- with 14 a head of that rule shares no variable with another.
+  pub demand-1-connected : question ≡ 14 → HeadApart (x .draft) (x .failing)
+  demand-1-connected is = fails-14 (x .draft) (x .failing) (x .fails ∙ ap no is)
+
+-- What is supposed comes up: sheets that are refused at line 4, with 14 for a rule and for a two-way rule, with 12, and with 7 for blanks.
+pub demand-1-comes-up : RefusedAt (sheetWith apartLine) 14 4 × RefusedAt (sheetWith keptApartLine) 14 4 × RefusedAt (sheetWith freeLine) 12 4 × RefusedAt (sheetWith blankLine) 7 4
+demand-1-comes-up = (apart-refused, kept-apart-refused, free-refused, blank-refused)
+
+module _ (sheet : List ℕ) (budget : ℕ) (room : List ℕ) where
   -- ── demand 2 ──
 
   -- Answer, setting, clauses with their order, and both counts are those of the search, whichever call answers.
@@ -116,6 +162,60 @@ module _ (sheet : List ℕ) (budget : ℕ) (room : List ℕ) where
       pub demand-2-logged-once : Different (f .state .log)
       demand-2-logged-once = logged-once sheet p reads budget v (f .state) (its-search sheet budget room p reads v f)
 
+-- ── UNKNOWN that is a model ──
+
+-- Take an accepted sheet, and a listing that says UNKNOWN of it: one that a call which answers so hands back, or the program's.
+module _ (sheet : List ℕ) (budget : ℕ) (p : Problem) (reads : read sheet ≡ accepted p) (shown : List ℕ) (says : SaysUnknown sheet budget shown) where
+  -- Its lines of kind 7 are what is set where the search ends, in table order; its setting, with every other atom false, is that of
+  -- `demand-2-unknown`.
+  pub demand-2-setting : (s : State) → search p budget ≡ done Unknown s → (listedLiterals shown ≡ settings Unknown s) × (listedSetting shown ≡ setting (s .trail))
+  demand-2-setting = unknown-settings sheet p reads budget shown says
+
+  -- The setting satisfies the sheet if every two-way rule has its reverse rule or an empty body, and,
+  module _ (said : all saidByRules (p .ruleLines) ≡ true) where
+    -- in every filling whose heads the setting makes all true, each of them stands on a line of kind 7.
+    pub demand-2-model : listedHeads shown p ≡ true → Satisfies (listedSetting shown) p
+    demand-2-model = model-listed sheet p reads budget shown says said
+
+    -- So it is where no rule has a negated head,
+    pub demand-2-model-positive : positiveHeads p ≡ true → Satisfies (listedSetting shown) p
+    demand-2-model-positive = model-positive sheet p reads budget shown says said
+
+    -- and where every negated head, in every filling, is about an atom that is named in a clause.
+    pub demand-2-model-named : namedHeads p ≡ true → Satisfies (listedSetting shown) p
+    demand-2-model-named = model-named sheet p reads budget shown says said
+
+-- What is supposed comes up. Of each of these sheets every call with a room large enough, and the program, say UNKNOWN: of one with a two-way
+-- rule and no negated head,
+pub demand-2-model-met-positive : (sheet : List ℕ) × (p : Problem) × (t : TwoWay) × (twoWay t ∈ p .ruleLines)
+    × IsUnknown sheet 1000000 p × (all saidByRules (p .ruleLines) ≡ true) × (positiveHeads p ≡ true)
+demand-2-model-met-positive =
+    (plates .sheet, plates .problem, plates-two-way .0, plates-two-way .1, is-unknown _ _ (plates .reads) 1000000 (plates .prints), plates .lines, plates .positive)
+
+-- of one with a negated head about atoms that are all named,
+pub demand-2-model-met-named : (sheet : List ℕ) × (p : Problem)
+    × IsUnknown sheet 1000000 p × (all saidByRules (p .ruleLines) ≡ true) × (positiveHeads p ≡ false) × (namedHeads p ≡ true)
+demand-2-model-met-named =
+    (namedAtom .sheet, namedAtom .problem, is-unknown _ _ (namedAtom .reads) 1000000 (namedAtom .prints), namedAtom .lines, namedAtom .positive, namedAtom .named)
+
+-- and of one where not all are named, and those that count stand on lines of kind 7.
+pub demand-2-model-met : (sheet : List ℕ) × (p : Problem)
+    × IsUnknown sheet 1000000 p × (all saidByRules (p .ruleLines) ≡ true) × (namedHeads p ≡ false) × (listedHeads (printed sheet 1000000) p ≡ true)
+demand-2-model-met =
+    (unnamedAtom .sheet, unnamedAtom .problem, is-unknown _ _ (unnamedAtom .reads) 1000000 (unnamedAtom .prints), unnamedAtom .lines, unnamedAtom .named, unnamedAtom .listed)
+
+-- Neither half can be left out. Of these two sheets they say UNKNOWN too, and no assignment satisfies either: one without two-way rules, with a
+-- negated head about an atom that is not named,
+pub demand-2-no-model : (sheet : List ℕ) × (p : Problem)
+    × IsUnknown sheet 1000000 p × (all saidByRules (p .ruleLines) ≡ true) × ((v : Assignment) → Satisfies v p → ⊥)
+demand-2-no-model = (openAtom .sheet, openAtom .problem, is-unknown _ _ (openAtom .reads) 1000000 (openAtom .prints), openAtom .lines, open-unsatisfied)
+
+-- and one without negated heads, with a two-way rule that has a body and no reverse rule.
+pub demand-2-no-model-two-way : (sheet : List ℕ) × (p : Problem)
+    × IsUnknown sheet 1000000 p × (positiveHeads p ≡ true) × ((v : Assignment) → Satisfies v p → ⊥)
+demand-2-no-model-two-way =
+    (noReverse .sheet, noReverse .problem, is-unknown _ _ (noReverse .reads) 1000000 (noReverse .prints), noReverse .positive, reverse-unsatisfied)
+
 -- ── demand 3 ──
 
 -- Take any sheet that some call answers UNSAT, at whatever budget and room, and any second accepted sheet that keeps its constants,
@@ -132,23 +232,23 @@ module _ (first second : List ℕ) (budget : ℕ) (room : List ℕ) (answered : 
 
 -- ── what is supposed comes up ──
 
--- An accepted sheet with an assignment that satisfies it, as `demand-3-assignments` says there is none, and with two choices of which the first is
--- earlier, as in `FirstChoice`;
+-- Some accepted sheets are satisfied by an assignment, so that `demand-3-assignments` says something; a choice may be earlier than another, as in
+-- `FirstChoice`;
 pub supposed-satisfied : (sheet : List ℕ) × (accepts : Accepted sheet) × (v : Assignment) × Satisfies v (accepts .problem)
 supposed-satisfied = (Supposed.sheet, its-accepted, allButP, its-satisfied)
 
 pub supposed-earlier : (sheet : List ℕ) × (accepts : Accepted sheet) × (τ : Choice) × (σ : Choice) × Earlier (taskOf (accepts .problem)) τ σ
 supposed-earlier = (Supposed.sheet, its-accepted, _, _, both-earlier)
 
--- a sheet that is answered UNSAT, by each call that answers, and a second accepted one that keeps it;
+-- a sheet may be answered UNSAT (in `Supposed` by each call that answers) and a second accepted one keep it;
 pub supposed-kept : (first : List ℕ) × (second : List ℕ) × (budget : ℕ) × (room : List ℕ) × Answers first budget room Unsat × Accepted second × Keeps first second
 supposed-kept = (broken, larger, 7, _, handed-back, larger-accepted, larger-keeps)
 
--- two sheets that are filled alike (3/14), and that are not the same bytes;
+-- two sheets may be filled alike (3/14) and not be the same bytes;
 pub supposed-alike : (first : List ℕ) × (second : List ℕ) × FilledAlike first second × (length first ≡ length second → ⊥)
 supposed-alike = (plainly, withBlanks, filled-alike, longer)
 
--- and numbers that satisfy a text's clauses (9/14).
+-- and numbers may satisfy a text's clauses (9/14).
 pub supposed-numbers : (v : NumberAssignment) × (clauses : List (List Number)) × (length clauses ≡ 2) × SatisfiesNumberClauses v clauses
 supposed-numbers = (_, _, refl, numbers-satisfied)
 
@@ -162,6 +262,15 @@ request-1 = connected-heads
 pub request-1-only : (r : Rule) → connected r ≡ false → (h : HeadAmong r) × Apart h
 request-1-only = head-apart
 
+-- So the first call, and the export, refuse with 14 only at the line of a rule with such a head.
+pub request-1-call : (sheet : List ℕ) (budget : ℕ) (room : List ℕ) (line : ℕ) → call sheet budget room ≡ Refused (record { number = 14; line = line })
+    → (x : RefusedAt sheet 14 line) × HeadApart (x .draft) (x .failing)
+request-1-call = call-14
+
+pub request-1-export : (sheet : List ℕ) (budget : ℕ) (room export : List ℕ) (line : ℕ)
+    → exportCall sheet budget room export ≡ Refused (record { number = 14; line = line }) → (x : RefusedAt sheet 14 line) × HeadApart (x .draft) (x .failing)
+request-1-export = export-14
+
 -- 2/14. The contract of `export` says that it hands back `exportCall` with the length of `exportText`, and leaves `roomAfterExport` and
 -- `exportAfter` in its rooms; that of `read_cnf`, that it hands back `cnfRead` of what `readCnf` gives. They require nothing either.
 module _ (sheet : List ℕ) (budget : ℕ) (room export : List ℕ) where
@@ -173,6 +282,20 @@ module _ (sheet : List ℕ) (budget : ℕ) (room export : List ℕ) where
   -- What the program prints for its word `cnf`, by the contract of `print_cnf`: the line of a refusal, or the text.
   pub request-2-printed : Prints (λ p v s. cnfText (cnfOf (p .clauses) s)) sheet budget (printedCnf sheet budget)
   request-2-printed = prints-text sheet budget
+
+  -- A refusal with a line from 1 on speaks of it as the first call's does (`demand-1-line` and what follows there), both ways;
+  pub request-2-line : (r : Refusal) → exportCall sheet budget room export ≡ Refused r → 1 ≤ r .line → RefusedAt sheet (r .number) (r .line)
+  request-2-line = export-refused-at sheet budget room export
+
+  pub request-2-line-back : roomBytes ≤ length room → exportBytes ≤ length export → (question line : ℕ) → RefusedAt sheet question line
+      → exportCall sheet budget room export ≡ Refused (record { number = question; line = line })
+  request-2-line-back = refused-at-export sheet budget room export
+
+  -- with line 0 one of the rooms is too small, or the sheet is too long, or it has no byte.
+  pub request-2-no-line : (r : Refusal) → exportCall sheet budget room export ≡ Refused r → r .line ≡ 0
+      → ((r .number ≡ 1) × (length room < roomBytes)) ⊎ (((r .number ≡ 15) × (length export < exportBytes))
+      ⊎ (((r .number ≡ 2) × (sheetBytes < length sheet)) ⊎ ((r .number ≡ 3) × (sheet ≡ []))))
+  request-2-no-line = export-no-line sheet budget room export
 
   -- The text as it stands in the export room then.
   abbrev exported : List ℕ
@@ -226,7 +349,7 @@ request-3 = passed-over
 pub request-3-blanks : (column : List ℕ) → decimal column ≡ nothing → isBlank column ≡ true
 request-3-blanks = nothing-blank
 
--- and a line of blanks has no kind: where it passes 4 and 5 it gives 7, whatever was read before.
+-- and a line of blanks has no kind: where it passes 4 and 5 it gives 7, whatever was read before (of a call: `demand-1-blank`).
 pub request-3-blank-line : (d : Draft) (l : Line) → passes l ≡ true → isBlank (l .bytes) ≡ true → readLine d l ≡ no 7
 request-3-blank-line = blank-line
 

@@ -13,7 +13,7 @@ use Rattle.definitions.specs.Sheet.{Number, number, plus, decimal, Sheet·all}
 use Rattle.definitions.specs.Questions.{accepted, read}
 use Rattle.definitions.specs.Search.{done, search}
 use Rattle.definitions.specs.Listing.{answerNumber, refusalLine, Listing·all}
-use Rattle.definitions.specs.Call.{Lending, lendings, firstShort, afterLending, result, countsOf, answerOf, call, listedPart, printedPart, RefusedWith, tooSmall, improper, proper, FromSearch}
+use Rattle.definitions.specs.Call.{Lending, lendings, firstShort, afterLending, result, recordOf, answerOf, call, listedPart, printedPart, RefusedWith, tooSmall, improper, proper, FromSearch}
 use Rattle.definitions.specs.Export.{exportResult, exportLendings, exportCall}
 use Rattle.definitions.specs.Sheets.{Answers, handsBack, lists, prints, exportHandsBack}
 use Rattle.definitions.specs.declared.Verdict.{Verdict}
@@ -61,7 +61,7 @@ module _ (sheet : List ℕ) (budget : ℕ) (room : List ℕ) where
       elim (call-comes sheet budget room) [
         | tooSmall h r ↦ absurd (unlisted 1 0 r)
         | improper h q n d r ↦ absurd (unlisted q n r)
-        | proper h p d w s c a ↦ record { counts = countsOf w s; handsBack = a .handedBack; says = listed-answer w v s (rw (a .part) at e) }
+        | proper h p d w s c a ↦ record { counts = recordOf w s; handsBack = a .handedBack; says = listed-answer w v s (rw (a .part) at e) }
       ]
     where
       unlisted : (q n : ℕ) → RefusedWith sheet budget room q n → ⊥

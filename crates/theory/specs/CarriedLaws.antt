@@ -25,7 +25,7 @@ use Rattle.definitions.specs.Sheets.{Answers, handsBack, Row, ofKind}
 use Rattle.definitions.specs.Carried.{Entailed, NumberAssignment, SatisfiesNumberClause, SatisfiesNumberClauses, Unsatisfiable}
 use Rattle.definitions.specs.CarriedTrials.{bothSheet, both-read, both-ends, bothCounts, both-counts}
 use Rattle.definitions.specs.declared.Verdict.{Verdict}
-use Rattle.definitions.specs.declared.Verdict.the-variants.{Unsat, Unknown, Spent, Full}
+use Rattle.definitions.specs.declared.Verdict.the-variants.{Unsat}
 use Rattle.definitions.specs.declared.Counts.{Counts}
 use Rattle.definitions.specs.declared.Answer.the-variants.{Answered}
 use Rattle.theory.specs.Tests.{by-option, apart, some-injective}
@@ -37,6 +37,7 @@ use Rattle.theory.specs.SearchLaws.{clause-head, clause-taken, clause-ca
 use Rattle.theory.specs.InstanceLaws.{only-fillings, filled-rule, filled-heads, filled-body}
 use Rattle.theory.specs.TwoWayLaws.{lines-rules}
 use Rattle.theory.specs.Limits.{Limits, limits-searchable, accepted-limits, accepted-from-lines}
+use Rattle.theory.specs.ListingLaws.{listing-begins}
 use Rattle.theory.specs.ListedClauses.{logged-rows, row-clause-read}
 use Rattle.theory.specs.Trail.{World, Laws, LogOk}
 use Rattle.theory.specs.Answers.{search-inv}
@@ -127,11 +128,8 @@ exported-carried sheet budget room export c e u =
 
 -- a listing whose first line begins like that of UNSAT
 unsat-begins : (v : Verdict) (s : State) → take 8 (listing v s) ≡ bytes "   5   0" → v ≡ Unsat
-unfolding Text·all Lists·all Sheet·all Listing·all
-unsat-begins Unsat s h = refl
-unsat-begins Unknown s h = let z : _≡_ {A = ℕ} 49 48 = ap (λ (bs : List ℕ). getD bs 7 0) h in absurd (omega arith)
-unsat-begins Spent s h = let z : _≡_ {A = ℕ} 50 48 = ap (λ (bs : List ℕ). getD bs 7 0) h in absurd (omega arith)
-unsat-begins Full s h = let z : _≡_ {A = ℕ} 51 48 = ap (λ (bs : List ℕ). getD bs 7 0) h in absurd (omega arith)
+unfolding Text·all Listing·all
+unsat-begins v s h = listing-begins v Unsat s (bytes "   5   0") h refl
 
 -- a refusal's line doesn't
 refusal-begins : (q n : ℕ) → take 8 (refusalLine q n) ≡ bytes "   5   0" → ⊥

@@ -42,3 +42,4 @@ pub mod RefusedLineLaws
 pub mod CallAnswers
 pub mod Demand3
 pub mod CarriedLaws
+pub mod ModelLaws

@@ -1,9 +1,9 @@
--- A listing's lines of kind 6, read back from its bytes by the sheet's own reader of columns, are the logged clauses in their order.
--- Assumes nothing.
+-- A listing's lines of kinds 6 and 7, read back from its bytes by the sheet's own reader of columns, are the logged clauses and the set
+-- literals in their order. Assumes nothing.
 use Prim.Native.Nat.{ℕ, _≤_}
 use mathlib.Core.Path.{_≡_, refl, ap, subst, _∙_}
 use mathlib.Core.Bool.{Bool, true, false, not, Bool·not-not}
-use mathlib.Core.List.{List, [], _∷_, _++_, map, map-map, append-nil, append-assoc, List·Memᴰ·head, List·Memᴰ·tail, Memᴰ·of-map}
+use mathlib.Core.List.{List, [], _∷_, _++_, map, map-id, map-map, append-nil, append-assoc, List·Memᴰ·head, List·Memᴰ·tail, Memᴰ·of-map}
 use native.Mathlib.Omega.{arith}
 use lib.ListN.{length}
 use borrow.Author.Tests.{le-leb}
@@ -15,15 +15,16 @@ use Rattle.definitions.specs.Search.{Logged, clauseOf, State, done, search}
 use Rattle.definitions.specs.Listing.{Field, countLine, literalNumbers, loggedRow, loggedLine, setLine, settings, listingLines, listing}
 use Rattle.definitions.specs.Sheets.{Row, isKind, ofKind}
 use Rattle.definitions.specs.Carried.{clauseOn}
+use Rattle.definitions.specs.Models.{literalOn, listedLiterals}
 use Rattle.definitions.specs.declared.Verdict.{Verdict}
 use Rattle.theory.specs.ListLaws.{map-alike, joined-in, filter-append, filter-all, filter-none, Each, each-cons}
 use Rattle.theory.specs.PlaceLaws.{filter-map}
-use Rattle.theory.specs.WordLaws.{literal-ext}
+use Rattle.theory.specs.WordLaws.{atom-ext, literal-ext}
 use Rattle.theory.specs.AskedLaws.{yes-bind, yes-ask}
 use Rattle.theory.specs.Limits.{LiteralLimits, Limits, Between, within-plus}
-use Rattle.theory.specs.ListingLaws.{clause-length, logged-fit}
+use Rattle.theory.specs.ListingLaws.{clause-length, logged-fit, set-fit, settings-in}
 use Rattle.theory.specs.ColumnsRead.{NotMinusZero, plus-not-minus-zero, listedRow, rows-listed, row-read, other-kind}
-use Rattle.theory.specs.Sizes.{logged-limits, logged-listable}
+use Rattle.theory.specs.Sizes.{literal-listable, logged-limits, logged-listable, table-limits}
 
 -- ── a clause in columns ──
 
@@ -75,6 +76,25 @@ kept-between : {A : Type 0} (p : A → Bool) (x : A) (ys zs : List A) → p x �
 unfolding filter
 kept-between p x ys zs fails passes fail = cc (filter-append p ys zs, filter-all p ys passes, filter-none p zs fail, append-nil ys)
 
+-- only what stands behind
+kept-behind : {A : Type 0} (p : A → Bool) (x : A) (ys zs : List A) → p x ≡ false → Each (λ y. p y ≡ false) ys → Each (λ z. p z ≡ true) zs
+    → filter p (x ∷ ys ++ zs) ≡ zs
+unfolding filter
+kept-behind p x ys zs fails fail passes = cc (filter-append p ys zs, filter-none p ys fail, filter-all p zs passes)
+
+-- the lines of a kind
+kind-listed : (k : ℕ) (v : Verdict) (s : State) → ofKind k (listing v s) ≡ map listedRow (filter (λ line. isKind k (listedRow line)) (listingLines v s))
+unfolding ofKind listing
+kind-listed k v s = ap (filter (isKind k)) (rows-listed (listingLines v s)) ∙ filter-map (isKind k) listedRow (listingLines v s)
+
+-- the columns of a set literal's line, and that they are read as the literal
+setRow : Literal → Row
+setRow l = plus 7 ∷ literalNumbers l
+
+set-row-read : (l : Literal) → literalOn (setRow l) ≡ l
+unfolding literalOn setRow literalNumbers plus
+set-row-read l = literal-ext (Bool·not-not (l .positive)) (atom-ext refl (map-map _ plus (l .atom .args) ∙ map-id (l .atom .args)))
+
 module _ (p : Problem) (limits : Limits p) (budget : ℕ) (v : Verdict) (s : State) (ends : search p budget ≡ done v s) where
   logged-row : (g : Logged) → g ∈ s .log → listedRow (loggedLine g) ≡ loggedRow g
   unfolding loggedLine loggedRow
@@ -88,11 +108,10 @@ module _ (p : Problem) (limits : Limits p) (budget : ℕ) (v : Verdict) (s : Sta
 
   -- the listing's lines of kind 6 are those of the log, in its order
   pub logged-rows : ofKind 6 (listing v s) ≡ map loggedRow (s .log)
-  unfolding ofKind listing listingLines countLine setLine isKind loggedRow plus
+  unfolding listingLines countLine setLine isKind loggedRow plus
   logged-rows =
       let isLogged : List Field → Bool = λ line. isKind 6 (listedRow line) in
-      ap (filter (isKind 6)) (rows-listed (listingLines v s))
-      ∙ filter-map (isKind 6) listedRow (listingLines v s)
+      kind-listed 6 v s
       ∙ ap (map listedRow) (kept-between isLogged (countLine v s) (map loggedLine (s .log)) (map setLine (settings v s))
       (other-kind 6 5 _ (omega arith) (λ e. omega arith))
       (λ line m.
@@ -114,3 +133,35 @@ module _ (p : Problem) (limits : Limits p) (budget : ℕ) (v : Verdict) (s : Sta
   -- together
   pub log-listed : map (clauseOn p) (ofKind 6 (listing v s)) ≡ map (λ (g : Logged). yes (clauseOf g)) (s .log)
   log-listed = ap (map (clauseOn p)) logged-rows ∙ map-map (clauseOn p) loggedRow (s .log) ∙ map-alike _ _ (s .log) row-clause-read
+
+  set-row : (l : Literal) → l ∈ settings v s → listedRow (setLine l) ≡ setRow l
+  unfolding setLine setRow
+  set-row l m =
+      let w = table-limits p limits budget v s ends l (settings-in v s l m .0) in
+      row-read (setRow l) (set-fit l (literal-listable p limits l w)) (each-cons NotMinusZero (plus-not-minus-zero 7) (literal-not-minus-zero p l w))
+
+  -- its lines of kind 7 are those of the set literals, in table order
+  set-rows : ofKind 7 (listing v s) ≡ map setRow (settings v s)
+  unfolding listingLines countLine loggedLine loggedRow isKind setRow plus
+  set-rows =
+      let isSet : List Field → Bool = λ line. isKind 7 (listedRow line) in
+      kind-listed 7 v s
+      ∙ ap (map listedRow) (kept-behind isSet (countLine v s) (map loggedLine (s .log)) (map setLine (settings v s))
+      (other-kind 7 5 _ (omega arith) (λ e. omega arith))
+      (λ line m.
+      let (g, k, e) = Memᴰ·of-map loggedLine (s .log) m in
+      subst (λ line. isSet line ≡ false) e (other-kind 7 6 _ (omega arith) (λ e. omega arith)))
+      (λ line m.
+      let (l, k, e) = Memᴰ·of-map setLine (settings v s) m in
+      subst (λ line. isSet line ≡ true) e (ap (isKind 7) (set-row l k))))
+      ∙ map-map listedRow setLine (settings v s)
+      ∙ map-alike _ _ (settings v s) set-row
+
+  -- each reads as its literal
+  pub settings-listed : listedLiterals (listing v s) ≡ settings v s
+  unfolding listedLiterals
+  settings-listed =
+      ap (map literalOn) set-rows
+      ∙ map-map literalOn setRow (settings v s)
+      ∙ map-alike _ (λ l. l) (settings v s) (λ l m. set-row-read l)
+      ∙ map-id (settings v s)

@@ -9,7 +9,7 @@ use mathlib.Core.Option.{Option, none, some}
 use native.Mathlib.Omega.{arith}
 use native.Mathlib.Nat.{pow-suc}
 use lib.Dec.{ltb}
-use lib.ListN.{length, take, drop, replicate, length-append, length-map, length-replicate}
+use lib.ListN.{length, getD, take, drop, replicate, length-append, length-map, length-replicate}
 use borrow.Author.Tests.{ltb-false}
 use Rattle.definitions.specs.Lists.{_∈_, joined, filter, listOf, Lists·all}
 use Rattle.definitions.specs.Words.{Atom, Literal, negate, plain, sameLiteral}
@@ -20,7 +20,8 @@ use Rattle.definitions.specs.declared.Verdict.{Verdict}
 use Rattle.definitions.specs.declared.Verdict.the-variants.{Unsat, Unknown, Spent, Full}
 use Rattle.theory.specs.Tests.{by-test}
 use Rattle.theory.specs.DistinctLaws.{distinct-length}
-use Rattle.theory.specs.ListLaws.{filter-in, filter-length, joined-in, joined-append, joined-length, Each, each-nil, each-cons, each-append}
+use Rattle.theory.specs.ListLaws.{filter-of, filter-in, filter-length, joined-of, joined-in, joined-append, joined-length, Each, each-nil, each-cons, each-append}
+use Rattle.theory.specs.WordLaws.{as-plain, as-negated}
 
 -- ── a column ──
 
@@ -183,24 +184,35 @@ logged-fit g h =
     each-cons FieldFits (plus-fits (length (clauseOf g)) (omega (arith, clause-length g, h .heads))) (
     literals-fit (clauseOf g) (h .literal))))
 
-set-fit : (l : Literal) → AtomListable (l .atom) → Fit (setLine l)
+-- and of a set literal's line
+pub set-fit : (l : Literal) → AtomListable (l .atom) → Fit (setLine l)
 unfolding setLine
 set-fit l h = each-cons FieldFits (plus-fits 7 (omega arith)) (literal-fit l h)
 
--- what is set is a literal of an atom of the table
-set-listable : (v : Verdict) (s : State) → Listable s → (l : Literal) → l ∈ settings v s → AtomListable (l .atom)
+-- what is listed as set is true, and of an atom of the table
+pub settings-in : (v : Verdict) (s : State) (l : Literal) → l ∈ settings v s → (l .atom ∈ s .table) × (isTrue (s .trail) l ≡ true)
 unfolding settings setLiteral negate plain
-set-listable Unsat s h l m = absurd (List·Memᴰ·not-nil m)
-set-listable Unknown s h l m =
+settings-in Unsat s l m = absurd (List·Memᴰ·not-nil m)
+settings-in Unknown s l m =
     let (a, k, j) = joined-in (setLiteral s) (s .table) l m in
-    let i = filter-in (isTrue (s .trail)) (plain a ∷ negate (plain a) ∷ []) l j .0 in
+    let (i, h) = filter-in (isTrue (s .trail)) (plain a ∷ negate (plain a) ∷ []) l j in
     let e : l .atom ≡ a = elim (List·Memᴰ·cases-cons i) [
       | inl q ↦ ap (λ x. x .atom) q
       | inr n ↦ ap (λ x. x .atom) (List·Memᴰ·eq-of-singleton n)
     ] in
-    subst AtomListable (sym e) (h .atoms a k)
-set-listable Spent s h l m = absurd (List·Memᴰ·not-nil m)
-set-listable Full s h l m = absurd (List·Memᴰ·not-nil m)
+    (rw e k, h)
+settings-in Spent s l m = absurd (List·Memᴰ·not-nil m)
+settings-in Full s l m = absurd (List·Memᴰ·not-nil m)
+
+-- and all that is
+pub in-settings : (s : State) (l : Literal) → l .atom ∈ s .table → isTrue (s .trail) l ≡ true → l ∈ settings Unknown s
+unfolding settings setLiteral
+in-settings s l m h =
+    joined-of (setLiteral s) (s .table) (l .atom) l m (filter-of (isTrue (s .trail)) _ l (
+    by-test (l .positive) (λ e. List·Memᴰ·head (as-plain l e)) (λ e. List·Memᴰ·tail (List·Memᴰ·head (as-negated l e)))) h)
+
+set-listable : (v : Verdict) (s : State) → Listable s → (l : Literal) → l ∈ settings v s → AtomListable (l .atom)
+set-listable v s h l m = h .atoms (l .atom) (settings-in v s l m .0)
 
 logged-lines-fit : (s : State) → Listable s → Each Fit (map loggedLine (s .log))
 logged-lines-fit s h line m =
@@ -312,3 +324,14 @@ listed-answer v w s e =
     let same : number (plus (answerNumber v)) ≡ number (plus (answerNumber w)) = sym (answer-listed v s) ∙ e in
     let q : plus (answerNumber v) ≡ plus (answerNumber w) = cc in
     answerNumber-injective v w (ap (λ n. n .size) q)
+
+-- the eighth byte is its digit, and tells the answer too
+answer-byte : (v : Verdict) (s : State) → getD (take 8 (listing v s)) 7 0 ≡ 48 + answerNumber v
+unfolding Lists·all Sheet·all Listing·all
+answer-byte Unsat s = refl
+answer-byte Unknown s = refl
+answer-byte Spent s = refl
+answer-byte Full s = refl
+
+pub listing-begins : (v w : Verdict) (s : State) (begin : List ℕ) → take 8 (listing v s) ≡ begin → getD begin 7 0 ≡ 48 + answerNumber w → v ≡ w
+listing-begins v w s begin h e = answerNumber-injective v w (omega (arith, answer-byte v s, ap (λ (bs : List ℕ). getD bs 7 0) h, e))

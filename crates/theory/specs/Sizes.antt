@@ -8,13 +8,13 @@ use native.Mathlib.Omega.{arith}
 use lib.ListN.{length, length-map}
 use borrow.Author.Tests.{eq-eqb}
 use Rattle.definitions.specs.Lists.{_∈_, upFrom}
-use Rattle.definitions.specs.Words.{Atom, Literal, negate, plain, Term, variable, constant, Pattern, Rule, Problem, goalAtoms}
+use Rattle.definitions.specs.Words.{Literal, plain, Term, variable, constant, Pattern, Rule, Problem, goalAtoms}
 use Rattle.definitions.specs.Instances.{Substitution, termValue, ground, isVariable, occursIn, variables, substitutions, Instance, fill, taskOf}
 use Rattle.definitions.specs.Search.{isFalse, Logged, clauseOf, State, done, search}
 use Rattle.definitions.specs.declared.Verdict.{Verdict}
 use Rattle.theory.specs.ListLaws.{any-of, filter-of, Each, each-append}
 use Rattle.theory.specs.PlaceLaws.{in-upFrom}
-use Rattle.theory.specs.WordLaws.{goal-from}
+use Rattle.theory.specs.WordLaws.{negate-atom, goal-from}
 use Rattle.theory.specs.SearchLaws.{clause-cases}
 use Rattle.theory.specs.InstanceLaws.{substitution-sound, only-fillings, filled-rule, filled-heads, filled-body}
 use Rattle.theory.specs.Counts.{decisions-within-budget, conflicts-at-most-decisions-plus-1, limits-kept}
@@ -55,7 +55,7 @@ module _ (p : Problem) (r : Rule) (f : Substitution) (inside : f ∈ substitutio
 
 module _ (p : Problem) (limits : Limits p) where
   -- a literal that keeps the limits can be listed
-  literal-listable : (l : Literal) → LiteralLimits p l → AtomListable (l .atom)
+  pub literal-listable : (l : Literal) → LiteralLimits p l → AtomListable (l .atom)
   literal-listable l w =
       record {
         symbol = omega (arith, w .declared, limits .symbols);
@@ -75,14 +75,10 @@ module _ (p : Problem) (limits : Limits p) where
       subst (LiteralLimits p) q (
       filled-limits p (f .rule) (f .filling) (f .inside) x j (each-append (PatternLimits p) (f .rule .heads) (r .eachHead) (r .eachBody) x j))
 
-  negated-limits : (l : Literal) → LiteralLimits p l → LiteralLimits p (negate l)
-  unfolding negate
-  negated-limits l w = record { symbol = w .symbol; declared = w .declared; args = w .args; inRange = w .inRange }
-
-  goal-listable : (a : Atom) → a ∈ goalAtoms (p .clauses) → AtomListable a
-  goal-listable a m =
-      let g = goal-from (p .clauses) a m in
-      subst AtomListable (g .atom) (literal-listable (g .literal) (limits .eachClause (g .clause) (g .its) .eachLiteral (g .literal) (g .inside)))
+  -- the limits are of a literal's atom
+  same-limits : (l m : Literal) → l .atom ≡ m .atom → LiteralLimits p l → LiteralLimits p m
+  same-limits l m e w =
+      record { symbol = rw (← e) (w .symbol); declared = rw (← e) (w .declared); args = rw (← e) (w .args); inRange = rw (← e) (w .inRange) }
 
   -- where a search ends, with whatever budget
   module _ (budget : ℕ) (v : Verdict) (s : State) (e : search p budget ≡ done v s) where
@@ -92,7 +88,7 @@ module _ (p : Problem) (limits : Limits p) where
         let ok = logged-ok p budget v s e g m in
         let each = instance-limits (g .instance) (ok .its) in
         elim (clause-cases g l n) [
-          | inl r ↦ subst (LiteralLimits p) (sym (r .2)) (negated-limits (r .0) (each (r .0) (Memᴰ·append-left (g .instance .body) (r .1))))
+          | inl r ↦ same-limits (r .0) l (sym (ap (λ (x : Literal). x .atom) (r .2) ∙ negate-atom (r .0))) (each (r .0) (Memᴰ·append-left (g .instance .body) (r .1)))
           | inr q ↦ each l (Memᴰ·append-right (g .instance .heads) (ok .taken l q))
         ]
 
@@ -108,9 +104,20 @@ module _ (p : Problem) (limits : Limits p) where
           literal = λ l n. literal-listable l (logged-limits g m l n);
         }
 
+    -- the literals of the table's atoms keep them too: each atom is from a goal clause or from the body of an instance
+    pub table-limits : (l : Literal) → l .atom ∈ s .table → LiteralLimits p l
+    unfolding search taskOf
+    table-limits l m =
+        elim (search-sourced (taskOf p) budget v s e (l .atom) m) [
+          | inl g ↦ let c = goal-from (p .clauses) (l .atom) g in
+              same-limits (c .literal) l (c .atom) (limits .eachClause (c .clause) (c .its) .eachLiteral (c .literal) (c .inside))
+          | inr b ↦ let inside = Memᴰ·append-right (b .instance .heads) (b .inside) in
+              same-limits (b .literal) l (sym (b .atom)) (instance-limits (b .instance) (b .its) (b .literal) inside)
+        ]
+
   -- every state in which a search ends can be listed
   pub search-listable : (budget : ℕ) → budget < 2 ^ 32 → (v : Verdict) (s : State) → search p budget ≡ done v s → Listable s
-  unfolding search taskOf isFalse
+  unfolding search taskOf isFalse plain
   search-listable budget h v s e =
       let (tableSize, logSize) = limits-kept (taskOf p) budget v s few e in
       let decided = decisions-within-budget (taskOf p) budget v s e in
@@ -119,11 +126,7 @@ module _ (p : Problem) (limits : Limits p) where
         log = logSize;
         decisions = omega arith;
         conflicts = omega (arith, conflicts-at-most-decisions-plus-1 (taskOf p) budget v s e);
-        atoms = λ a m. elim (search-sourced (taskOf p) budget v s e a m) [
-          | inl g ↦ goal-listable a g
-          | inr b ↦ let inside = Memᴰ·append-right (b .instance .heads) (b .inside) in
-              subst AtomListable (sym (b .atom)) (literal-listable (b .literal) (instance-limits (b .instance) (b .its) (b .literal) inside))
-        ];
+        atoms = λ a m. literal-listable (plain a) (table-limits budget v s e (plain a) m);
         clauses = logged-listable budget v s e;
         settled = λ a m. consistent (taskOf p) (search-tells (taskOf p) budget v s e .0 .trailed) (plain a);
       }

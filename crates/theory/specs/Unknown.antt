@@ -20,6 +20,27 @@ use Rattle.theory.specs.SearchLaws.{Consistent, true-at, entry-true, tru
 use Rattle.theory.specs.Trail.{Gave, Decision, decision-goal, Consequence, Agrees, Ok, bare, next}
 use Rattle.theory.specs.Choices.{choiceWorld, search-tells}
 
+-- what is true is what the setting makes, where no atom has both signs
+pub true-makes : (t : Trail) → Consistent t → (l : Literal) → isTrue t l ≡ true → Makes (setting t) l
+unfolding setting isFalse
+true-makes t apart l h =
+    by-test (l .positive)
+    (λ e. subst (λ (x : Literal). isTrue t x ≡ true) (as-plain l e) h ∙ sym e)
+    (λ e. by-test (isTrue t (plain (l .atom)))
+    (λ p. absurd (apart (plain (l .atom)) p (subst (λ (x : Literal). isTrue t x ≡ true) (as-negated l e) h)))
+    (λ p. p ∙ sym e))
+
+-- what it makes of an atom that is set is true
+pub makes-true : (t : Trail) (l : Literal) → isUnset t (plain (l .atom)) ≡ false → Makes (setting t) l → isTrue t l ≡ true
+unfolding setting isFalse
+makes-true t l u y =
+    by-test (l .positive)
+    (λ e. rw (as-plain l e) (y ∙ e))
+    (λ e. elim (set-cases t (plain (l .atom)) u) [
+      | inl h ↦ true-and-false h (y ∙ e)
+      | inr h ↦ rw (as-negated l e) h
+    ])
+
 module _ (k : Task) where
   pub consistent : {t : Trail} → Ok k (choiceWorld k) t → Consistent t
   unfolding isTrue isFalse any
@@ -71,26 +92,6 @@ module _ (k : Task) where
       latest q (inr c) = absurd (c .isnt (sym (ap (λ (x : Entry). x .why) q) ∙ w))
 
   module _ (t : Trail) (o : Ok k (choiceWorld k) t) where
-    -- what is true is what the setting makes
-    true-makes : (l : Literal) → isTrue t l ≡ true → Makes (setting t) l
-    unfolding setting isFalse
-    true-makes l h =
-        by-test (l .positive)
-        (λ e. subst (λ (x : Literal). isTrue t x ≡ true) (as-plain l e) h ∙ sym e)
-        (λ e. by-test (isTrue t (plain (l .atom)))
-        (λ p. absurd (consistent o (plain (l .atom)) p (subst (λ (x : Literal). isTrue t x ≡ true) (as-negated l e) h)))
-        (λ p. p ∙ sym e))
-
-    makes-true : (l : Literal) → isUnset t (plain (l .atom)) ≡ false → Makes (setting t) l → isTrue t l ≡ true
-    unfolding setting isFalse
-    makes-true l u y =
-        by-test (l .positive)
-        (λ e. rw (as-plain l e) (y ∙ e))
-        (λ e. elim (set-cases t (plain (l .atom)) u) [
-          | inl h ↦ true-and-false h (y ∙ e)
-          | inr h ↦ rw (as-negated l e) h
-        ])
-
     -- what is true is in the closure of the setting: a goal atom's literal is chosen, a created one's was given by an instance
     entry-closure : {u : Trail} → Ok k (choiceWorld k) u → ((e : Entry) → e ∈ u → e ∈ t) → (e : Entry) → e ∈ u → Closure k (setting t) (e .literal)
     entry-closure bare w e m = absurd (List·Memᴰ·not-nil m)
@@ -101,7 +102,7 @@ module _ (k : Task) where
         ]
       where
         goal : e .literal .atom ∈ goalAtoms (k .clauses) → Closure k (setting t) (e .literal)
-        goal a = chosen a (true-makes (e .literal) (entry-true t e (w e m)))
+        goal a = chosen a (true-makes t (consistent o) (e .literal) (entry-true t e (w e m)))
 
         given : ((x : Entry) → x ∈ u → Closure k (setting t) (x .literal)) → (l : Literal) → Gave k u l → Closure k (setting t) l
         given rec l g =
@@ -122,14 +123,14 @@ module _ (k : Task) where
 
   module _ (s : State) (o : Ok k (choiceWorld k) (s .trail)) (a : nextAct k s ≡ none) (b : nextInstance k s ≡ none) (c : nextGoal k s ≡ none) where
     closure-true : (l : Literal) → Closure k (setting (s .trail)) l → isTrue (s .trail) l ≡ true
-    closure-true l (chosen m y) = makes-true (s .trail) o l (goals-set k s c (l .atom) m) y
+    closure-true l (chosen m y) = makes-true (s .trail) l (goals-set k s c (l .atom) m) y
     closure-true l (derived i m hs n) = rests-true k s b i m (λ h j. closure-true h (hs h j)) .1 l n
 
     -- a goal clause that the setting breaks would be a conflict of step A
     broken-acts : (f : Breaks k (setting (s .trail))) → (l : Literal) → l ∈ f .clause → isFalse (s .trail) l ≡ true
     unfolding isFalse
     broken-acts f l m =
-        makes-true (s .trail) o (negate l)
+        makes-true (s .trail) (negate l)
         (subst (λ (x : Atom). isUnset (s .trail) (plain x) ≡ false) (sym (negate-atom l)) (goals-set k s c (l .atom) (goal-of (k .clauses) (f .clause) l (f .inside) m)))
         (f .allFalse l m)
 
@@ -165,7 +166,7 @@ module _ (k : Task) where
                 side : Decision k (w .before) e → Closure k τ (e .literal) ⊎ Fails k τ
                 side d =
                     elim (splits (y .before) (d .before) (y .after) (d .after) (sym (y .split) ∙ d .split)) [
-                      | inl n ↦ inl (chosen (decision-goal k (w .before) e d) (y .alike (e .literal .atom) n ∙ true-makes (s .trail) o (e .literal) (entry-true (s .trail) e (w .within e m))))
+                      | inl n ↦ inl (chosen (decision-goal k (w .before) e d) (y .alike (e .literal .atom) n ∙ true-makes (s .trail) (consistent o) (e .literal) (entry-true (s .trail) e (w .within e m))))
                       | inr r ↦ elim r [
                         | inl p ↦ true-and-false (entry-true (w .before) e m) (subst (λ (x : Literal). isTrue (w .before) x ≡ false) (ap plain p ∙ sym (d .positive)) (unset-not-true (w .before) (plain (y .at)) unset))
                         | inr n ↦ true-and-false unset (d .settled (y .at) n)

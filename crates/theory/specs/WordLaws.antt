@@ -42,13 +42,13 @@ pub sameAtom-refl : (a : Atom) → sameAtom a a ≡ true
 unfolding sameAtom
 sameAtom-refl a = cc (eq-eqb (a .symbol) (a .symbol) refl, sameArgs-refl (a .args))
 
-beq-eq : (a b : Bool) → Bool·beq a b ≡ true → a ≡ b
+pub beq-eq : (a b : Bool) → Bool·beq a b ≡ true → a ≡ b
 beq-eq true true h = refl
 beq-eq true false h = apart (cc)
 beq-eq false true h = apart (cc)
 beq-eq false false h = refl
 
-beq-refl : (a : Bool) → Bool·beq a a ≡ true
+pub beq-refl : (a : Bool) → Bool·beq a a ≡ true
 beq-refl true = refl
 beq-refl false = refl
 
