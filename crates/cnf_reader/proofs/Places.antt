@@ -7,11 +7,12 @@ use native.Mathlib.Omega.{arith}
 use lib.Dec.{eqb}
 use lib.ListN.{length, getD, drop, drop-of-length-le}
 use lib.Seq.{drop-cons}
-use borrow.Author.Tests.{eq-eqb, ne-eqb, le-leb, lt-leb}
+use borrow.Author.Tests.{eq-eqb, ne-eqb}
 use Rattle.definitions.specs.Questions.{Asked, yes, _>>=_, _>>_, ask}
 use Rattle.definitions.specs.Sheet.{isDigit}
 use Rattle.definitions.specs.Dimacs.{front, expect, expects, moreDigits, decimalAt, startsWith}
 use Rattle.theory.specs.Tests.{by-test}
+use Rattle.theory.specs.CnfText.{digit-low, digit-high, digit-among}
 use Rattle.cnf_reader.specs.Parts.{placeOf, decimalOf}
 use Rattle.cnf_reader.specs.declared.parts.Behind.the-variants.{At, Nowhere}
 use Rattle.cnf_reader.specs.declared.parts.DecimalAt.the-variants.{Decimal, NoDecimal}
@@ -72,18 +73,6 @@ unfolding expectsFrom expects placeOf
 expects-end text bytes at i q h = rw (behind-end bytes i h)
 
 -- ── decimals ──
-
-digit-low : (b : ℕ) → b < 48 → isDigit b ≡ false
-unfolding isDigit
-digit-low b h = cc (lt-leb 48 b h)
-
-digit-high : (b : ℕ) → 57 < b → isDigit b ≡ false
-unfolding isDigit
-digit-high b h = let low : 48 ≤ b = omega arith in cc (le-leb 48 b low, lt-leb b 57 h)
-
-digit-among : (b : ℕ) → 48 ≤ b → b ≤ 57 → isDigit b ≡ true
-unfolding isDigit
-digit-among b low high = cc (le-leb 48 b low, le-leb b 57 high)
 
 module _ (text : List ℕ) (at size : ℕ) where
   pub no-digit-end : length text ≤ at → front size (drop at text) ≡ moreDigits 1 size (drop at text)

@@ -17,6 +17,7 @@ pub mod Export
 pub mod Sheets
 pub mod RefusedLines
 pub mod Carried
+pub mod Command
 pub mod Models
 pub mod Supposed
 pub mod Trials
@@ -28,3 +29,4 @@ pub mod DimacsTrials
 pub mod CarriedTrials
 pub mod RefusedLineTrials
 pub mod ModelTrials
+pub mod CommandTrials

@@ -1,6 +1,6 @@
-// The answer of a call, as document 01 names it: an answer that carries its own record.
+// The answer of a call, as document 01 names it: an answer that carries its own record. And what the command does.
 // What the parts mean stands in specs/: `Call` says which answer a call hands back, and gives
-// document 01's number and values for each case.
+// document 01's number and values for each case; `Command` says what the command does with its words.
 
 // Which question was answered no, and at which line: 0 where it is asked of the call.
 pub struct Refusal {
@@ -35,4 +35,18 @@ pub enum Answer {
 pub struct Exported {
     pub answer: Answer,
     pub length: usize,
+}
+
+// A word of the command that is to be a number of 32 bits.
+pub enum Numeral {
+    Value(u32),
+    NoNumber,
+}
+
+// What the command's words order: the listing or the clauses, with the budget of the search; or they are no words of it, and it says which
+// are.
+pub enum Order {
+    Listing(u32),
+    Cnf(u32),
+    Usage,
 }

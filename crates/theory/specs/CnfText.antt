@@ -6,7 +6,7 @@ use mathlib.Core.List.{List, [], _∷_, _++_, append-assoc}
 use native.Mathlib.Omega.{arith}
 use native.Mathlib.Nat.{pow-suc, pow-le-pow-right}
 use lib.Dec.{eqb, leb, ltb}
-use borrow.Author.Tests.{leb-true, eqb-true, eqb-false, ltb-true, ltb-false, le-leb, lt-ltb, le-ltb, eq-eqb, ne-eqb}
+use borrow.Author.Tests.{leb-true, eqb-true, eqb-false, ltb-true, ltb-false, le-leb, lt-leb, lt-ltb, le-ltb, eq-eqb, ne-eqb}
 use Rattle.definitions.specs.Sheet.{Number, isDigit}
 use Rattle.definitions.specs.Questions.{yes, _>>=_, _>>_, ask}
 use Rattle.definitions.specs.Listing.{decimals, signedDecimals}
@@ -15,6 +15,19 @@ use Rattle.theory.specs.Tests.{by-test, and-left, and-right, and-intro}
 use Rattle.theory.specs.AskedLaws.{no≢yes, yes-injective, bind-yes, ask-yes, yes-bind, yes-ask}
 
 -- ── digits ──
+
+-- by the byte
+pub digit-low : (b : ℕ) → b < 48 → isDigit b ≡ false
+unfolding isDigit
+digit-low b h = cc (lt-leb 48 b h)
+
+pub digit-high : (b : ℕ) → 57 < b → isDigit b ≡ false
+unfolding isDigit
+digit-high b h = let low : 48 ≤ b = omega arith in cc (le-leb 48 b low, lt-leb b 57 h)
+
+pub digit-among : (b : ℕ) → 48 ≤ b → b ≤ 57 → isDigit b ≡ true
+unfolding isDigit
+digit-among b low high = cc (le-leb 48 b low, le-leb b 57 high)
 
 -- a digit's byte is one
 pub digit-is : (d : ℕ) → d < 10 → isDigit (48 + d) ≡ true

@@ -1,0 +1,3 @@
+pub mod SameWords
+pub mod Numerals
+pub mod Orders
