@@ -56,8 +56,9 @@ good() {
     outcome "words ${*:2}" "$1"
 }
 
-"$program" cnf < "$example.sheet" > "$work/cnf"
+printf 'p cnf 4 4\n1 2 0\n3 0\n-4 0\n-1 -3 4 0\n' > "$work/cnf"
 good "$example.listing"
+good "$work/cnf" cnf
 good "$example.listing" budget 1000000
 good "$example.listing" budget 1
 good "$example.listing" budget 4294967295

@@ -2,6 +2,7 @@
 use Prim.Native.Nat.{_-_, _≤_}
 use mathlib.Core.Path.{_≡_, _∙_}
 use mathlib.Core.Bool.{false}
+use native.Mathlib.Omega.{arith}
 use lib.ListN.{length}
 use borrow.Author.Needs.{needs}
 use Rattle.definitions.specs.Sheet.{natural}
@@ -23,7 +24,7 @@ shared-slice-read-if2 : tie.Need-shared-slice-read-if2 Inv-loop μ-loop
 shared-slice-read-if2 c = search needs
 
 returns-2 : tie.Need-returns-2 Inv-loop μ-loop
-returns-2 c = natural-low _ (c .if2 .taken)
+returns-2 c = natural-low _ (omega arith)
 
 loop-holds : tie.Need-loop-holds Inv-loop μ-loop
 loop-holds c = (search needs, search needs, natural-digits _ (c .if2 .left))
@@ -56,7 +57,7 @@ returns-5 : tie.Need-returns-5 Inv-loop μ-loop
 returns-5 c =
     let turn = c .before .before .before .before in
     let l = turn .before .loop in
-    numeral-too-large _ (l .i) (l .value) (turn .loop-test .taken) (c .before .before .if3 .left) (c .before .if4 .left) (c .if5 .taken) ∙ l .inv .2
+    numeral-too-large _ (l .i) (l .value) (turn .loop-test .taken) (c .before .before .if3 .left) (c .before .if4 .left) (omega arith) ∙ l .inv .2
 
 add-i : tie.Need-add-i Inv-loop μ-loop
 add-i c = search needs

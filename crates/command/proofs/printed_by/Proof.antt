@@ -1,5 +1,6 @@
 -- `printed_by` meets its contract, by how many words there are and by the one. Assumes nothing.
 use mathlib.Core.Path.{_∙_, sym}
+use native.Mathlib.Omega.{arith}
 use denote.Ref.{now}
 use borrow.Author.Needs.{needs}
 use Rattle.definitions.specs.Text.{bytes}
@@ -11,7 +12,7 @@ returns : tie.Need-returns
 returns c = listing-ordered now _ (c .before .args .words .now) (c .if1 .taken)
 
 returns-2 : tie.Need-returns-2
-returns-2 c = printed-many now _ (c .before .before .args .words .now) (c .before .if1 .left) (c .if2 .taken)
+returns-2 c = printed-many now _ (c .before .before .args .words .now) (c .before .if1 .left) (λ e. omega arith)
 
 shared-slice-copy-out-same : tie.Need-shared-slice-copy-out-same
 shared-slice-copy-out-same c = search needs
