@@ -10,6 +10,8 @@
 #   language in examples/callers; of a ```rust block it may stand in a crate's source too, since Rattle is shown so.
 # - Other blocks are only shown.
 #
+# Without a page's name it also holds docs/WRONG_ANSWERS.md to the files: each must-fail edit stands in its first column once.
+#
 # Skipped, and said: rt and .ci/run, which take long and print times, and what needs one of the programs below that isn't installed.
 # The last line is "docs: K skipped, N passed, M failed"; exit status 1 if one failed.
 set -u
@@ -124,5 +126,15 @@ page() {
 for name in "${pages[@]}"; do
     page "$name"
 done
+if [ $# -eq 0 ]; then
+    sed -n 's/^| `\([a-z_0-9]*\/[a-z_0-9]*\)` |.*/\1/p' docs/WRONG_ANSWERS.md | sort > "$work/named"
+    ls crates/*/must-fail/*.edit | sed 's/crates\/\(.*\)\/must-fail\/\(.*\)\.edit/\1\/\2/' | sort > "$work/edits"
+    if diff "$work/named" "$work/edits" > "$work/differences"; then
+        passed=$((passed + 1))
+    else
+        fail "docs/WRONG_ANSWERS.md names (<) other edits than there are (>):"
+        cat "$work/differences"
+    fi
+fi
 echo "docs: $skipped skipped, $passed passed, $failed failed"
 [ "$failed" -eq 0 ] && [ "$passed" -gt 0 ]
