@@ -25,7 +25,7 @@ use Rattle.definitions.specs.Verdicts.{setting, FirstChoice, SpentWhen, FullWhe
 use Rattle.definitions.specs.Listing.{settings, listing}
 use Rattle.definitions.specs.Text.{bytes}
 use Rattle.definitions.specs.Dimacs.{Cnf, cnfOf, headerLine, cnfText, readCnf, CnfLimits}
-use Rattle.definitions.specs.Call.{Lending, afterLending, call, listedPart, roomAfter, printed, Comes, FromSearch, Prints}
+use Rattle.definitions.specs.Call.{Lending, afterLending, call, listedPart, roomAfter, printed, printedPart, Comes, FromSearch, Prints}
 use Rattle.definitions.specs.Export.{exportCall, exportText, roomAfterExport, exportAfter, printedCnf, ExportComes}
 use Rattle.definitions.specs.Sheets.{Accepted, Answers, Row, ofKind, Keeps, passes, FilledAlike, blankColumn, isBlank, HeadAmong, Shares, Apart}
 use Rattle.definitions.specs.RefusedLines.{RefusedAt, HeadApart, FreeVariable}
@@ -45,7 +45,7 @@ use Rattle.definitions.specs.ModelTrials.{plates, plates-two-way, namedAtom, un
 use Rattle.theory.specs.Theorems.{unsat, unknown, spent, full, decisions-at-most-the-budget, conflicts-at-most-one-more, logged-once}
 use Rattle.theory.specs.InstanceLaws.{substitution-complete, every-filling, only-fillings}
 use Rattle.theory.specs.SearchLaws.{clause-once, heads-once}
-use Rattle.theory.specs.CallLaws.{call-comes, prints-listing}
+use Rattle.theory.specs.CallLaws.{call-comes, prints-listing, small-part, large-part}
 use Rattle.theory.specs.CallAnswers.{answer-from-search, its-search}
 use Rattle.theory.specs.TruthLaws.{search-tells-apart}
 use Rattle.theory.specs.TwoWayLaws.{equivalence-rules, rules-equivalence, lines-rules}
@@ -86,9 +86,13 @@ module _ (sheet : List ℕ) (budget : ℕ) (room : List ℕ) where
   pub demand-1 : Comes sheet budget room
   demand-1 = call-comes sheet budget room
 
-  -- What the program prints, by the contract of `print`: the line of a refusal, or the listing.
+  -- What the program prints: the line of a refusal, or the listing.
   pub demand-1-printed : Prints (λ p v s. listing v s) sheet budget (printed sheet budget)
   demand-1-printed = prints-listing sheet budget
+
+  -- By the contract of `print` that is what stands at the front of its room afterwards, and nothing where the room is too small.
+  pub demand-1-printed-part : (roomBytes ≤ length room → printedPart sheet budget room ≡ printed sheet budget) × (length room < roomBytes → printedPart sheet budget room ≡ [])
+  demand-1-printed-part = (large-part sheet budget room, small-part sheet budget room)
 
   -- A refusal with a line from 1 on speaks of that line: every line before it passes all its questions, and the number is that of the
   -- first question that it fails.
