@@ -8,6 +8,7 @@ use mathlib.Core.List.{List, [], _∷_}
 use native.Mathlib.Nat.{pow-suc, add-zero, one-mul, zero-mul, eq-zero-or-pos, div-one, div-div-eq-div-mul, mul-comm}
 use native.Mathlib.Omega.{arith}
 use lib.Dec.{eqb, eqb·zero-suc, eqb·suc-zero, eqb·suc-suc, lit<}
+use lib.ListN.{getD}
 use lib.Pow.{pow-pos, shl-exact}
 use lib.Bits.{bitAnd, bitOr, and-step, or-step, and-le-l}
 use lib.Count.{trailingZeros}
@@ -17,6 +18,10 @@ use borrow.Author.Tests.{eqb-true, eqb-false, eq-eqb, ne-eqb}
 unfoldable pub has : ℕ → ℕ → Bool
 has zero m = eqb (m % 2) 1
 has (suc c) m = has c (m / 2)
+
+-- a set of numbers, 64 to a word
+unfoldable pub among : List ℕ → ℕ → Bool
+among words c = has (c % 64) (getD words (c / 64) 0)
 
 -- so many bits of a word, its lowest standing for i: the numbers of those set, rising
 unfoldable pub bitsFrom : ℕ → ℕ → ℕ → List ℕ

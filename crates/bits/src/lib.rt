@@ -14,6 +14,13 @@ pub fn wide32(x: u32) -> usize
     x as usize
 }
 
+// A word that is read from an array; through a call the proof knows its bound.
+pub fn word(x: u32) -> u32
+    ensures { λ r. ⌜ (r ≡ x) × (r < 4294967296) ⌝ }
+{
+    x
+}
+
 // Whether a bit is set.
 pub fn has_bit(m: u32, c: usize) -> bool
     requires { ⌜ c < 32 ⌝ }

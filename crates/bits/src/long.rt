@@ -1,8 +1,10 @@
 // Words of 64 bits.
 ghost use mathlib.Core.Path.{_≡_};
+ghost use mathlib.Core.Bool.{true};
 ghost use Prim.Native.Nat.{_-_, _/_, _%_, _^_, _≤_, _<_};
+ghost use lib.Bits.{bitOr};
 ghost use lib.Count.{trailingZeros};
-ghost use Rattle.bits.specs.Bits.{replaceBit};
+ghost use Rattle.bits.specs.Bits.{has, replaceBit};
 use crate::wide32;
 
 // A word that is read from an array; through a call the proof knows its bound.
@@ -45,4 +47,28 @@ pub fn low_zeros(m: u64) -> usize
     ensures { λ r. ⌜ (r ≡ trailingZeros 64 m) × (r ≤ 64) ⌝ }
 {
     wide32(u64::trailing_zeros(m))
+}
+
+// Whether a bit is set.
+pub fn has_bit(m: u64, c: usize) -> bool
+    requires { ⌜ c < 64 ⌝ }
+    ensures { λ b. ⌜ b ≡ has c m ⌝ }
+{
+    (m >> c) % 2 == 1
+}
+
+// The word with a bit set.
+pub fn with_bit(m: u64, c: usize) -> u64
+    requires { ⌜ c < 64 ⌝ }
+    ensures { λ r. ⌜ r ≡ bitOr m (2 ^ c) ⌝ }
+{
+    m | (1u64 << c)
+}
+
+// The word without a bit that is set.
+pub fn without_bit(m: u64, c: usize) -> u64
+    requires { ⌜ (c < 64) × (has c m ≡ true) ⌝ }
+    ensures { λ r. ⌜ r ≡ m - 2 ^ c ⌝ }
+{
+    m - (1u64 << c)
 }

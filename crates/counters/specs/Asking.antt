@@ -10,7 +10,7 @@ use lib.Pow.{shr-le}
 use lib.ListN.{getD}
 use borrow.Author.Tests.{lt-ltb, leb-true, leb-false}
 use Rattle.theory.specs.Tests.{true-and-false}
-use Rattle.bits.specs.Bits.{has, has-zero, has-high, has-lowest, none-lower, has-over}
+use Rattle.bits.specs.Bits.{has, has-zero, has-high, has-lowest, none-lower, has-over, among}
 use Rattle.encoding.specs.CountLaws.{by-order}
 use Rattle.encoding.specs.Values.{Values}
 use Rattle.units.specs.Units.{clauseAt, maySet, actAt, actFrom}
@@ -18,18 +18,18 @@ use Rattle.units.specs.declared.UnitAct.{UnitAct}
 use Rattle.units.specs.declared.UnitAct.the-variants.{Nothing}
 use Rattle.counters.specs.Weights.{whole-is-once}
 use Rattle.counters.specs.ByNumber.{rests}
-use Rattle.counters.specs.Counters.{readWhole, numberAsks, countersOf, counters, askAt}
+use Rattle.counters.specs.Counters.{readWhole, numberAsks, countersOf, counters}
 use Rattle.counters.specs.CounterLaws.{counters-kept}
 
 -- ── the next clause that asks ──
 
 -- no clause from one up to another asks
 abbrev pub Unasked : List ℕ → ℕ → ℕ → Type 0
-Unasked asking c r = (i : ℕ) → c ≤ i → i < r → askAt asking i ≡ false
+Unasked asking c r = (i : ℕ) → c ≤ i → i < r → among asking i ≡ false
 
 module _ (asking : List ℕ) (c i word : ℕ) (is : word ≡ getD asking (i / 64) 0) (so-far : Unasked asking c i) where
-  shifted : (j : ℕ) → i ≤ j → j / 64 ≡ i / 64 → askAt asking j ≡ has (j - i) (word / 2 ^ (i % 64))
-  unfolding askAt
+  shifted : (j : ℕ) → i ≤ j → j / 64 ≡ i / 64 → among asking j ≡ has (j - i) (word / 2 ^ (i % 64))
+  unfolding among
   shifted j l q =
       let e : i % 64 + (j - i) ≡ j % 64 = omega arith in
       rw (q, ← is, has-over (i % 64) (j - i) word, e)
@@ -50,8 +50,8 @@ module _ (asking : List ℕ) (c i word : ℕ) (is : word ≡ getD asking (i / 64
     in-word : i % 64 + t < 64
     in-word = by-order 64 (i % 64 + t) (λ l. true-and-false here (has-high (i % 64 + t) 64 word small l)) (λ l. l)
 
-    pub next-here : (i < 640 → i + t < 640) × Unasked asking c (i + t) × (askAt asking (i + t) ≡ true)
-    unfolding askAt
+    pub next-here : (i < 640 → i + t < 640) × Unasked asking c (i + t) × (among asking (i + t) ≡ true)
+    unfolding among
     next-here =
         let w = in-word in
         let bit : (i + t) % 64 ≡ i % 64 + t = omega arith in
@@ -69,7 +69,7 @@ module _ (asking : List ℕ) (c i word : ℕ) (is : word ≡ getD asking (i / 64
 
 module _ (values : Values) (clause : ℕ → List ℕ) (clauses : ℕ) {rows counts asking : List ℕ} (few : clauses ≤ 640)
     (its : counters rows counts asking ≡ countersOf values clause clauses) where
-  asks-by : (c : ℕ) → c < clauses → askAt asking c ≡ leb (getD counts c 0) 1
+  asks-by : (c : ℕ) → c < clauses → among asking c ≡ leb (getD counts c 0) 1
   unfolding numberAsks
   asks-by c l = rw (lt-ltb c clauses l) at (counters-kept values clause clauses few its .asks c (omega arith))
 
@@ -77,10 +77,10 @@ module _ (values : Values) (clause : ℕ → List ℕ) (clauses : ℕ) {rows cou
   pub its-number : (c : ℕ) → c < clauses → getD counts c 0 ≡ readWhole values (clause c)
   its-number c l = counters-kept values clause clauses few its .count c l ∙ sym (whole-is-once values (clause c))
 
-  pub asks-few : (c : ℕ) → c < clauses → askAt asking c ≡ true → getD counts c 0 ≤ 1
+  pub asks-few : (c : ℕ) → c < clauses → among asking c ≡ true → getD counts c 0 ≤ 1
   asks-few c l h = leb-true (getD counts c 0) 1 (sym (asks-by c l) ∙ h)
 
-  asks-not : (c : ℕ) → c < clauses → askAt asking c ≡ false → 2 ≤ readWhole values (clause c)
+  asks-not : (c : ℕ) → c < clauses → among asking c ≡ false → 2 ≤ readWhole values (clause c)
   asks-not c l h = let many = leb-false (getD counts c 0) 1 (sym (asks-by c l) ∙ h) in omega (arith, its-number c l)
 
 -- ── clauses that don't ask are passed over ──
@@ -102,7 +102,7 @@ module _ (values : Values) (starts literals heads : List ℕ) (given goals : ℕ
 
   module _ (clauses : ℕ) {rows counts asking : List ℕ} (few : clauses ≤ 640)
       (its : counters rows counts asking ≡ countersOf values (λ c. clauseAt starts literals c) clauses) where
-    silent : (c : ℕ) → c < clauses → askAt asking c ≡ false → act c ≡ Nothing
+    silent : (c : ℕ) → c < clauses → among asking c ≡ false → act c ≡ Nothing
     unfolding actAt
     silent c l n =
         rests values (clauseAt starts literals c) (maySet values starts literals heads given goals c)

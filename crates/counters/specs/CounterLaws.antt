@@ -13,10 +13,10 @@ use borrow.Author.Tests.{lt-ltb, le-ltb}
 use Rattle.definitions.specs.Lists.{upFrom}
 use Rattle.theory.specs.Tests.{by-test}
 use Rattle.theory.specs.PlaceLaws.{getD-places}
-use Rattle.bits.specs.Bits.{has, packed, has-packed, packed-below, packed-only}
+use Rattle.bits.specs.Bits.{has, packed, has-packed, packed-below, packed-only, among}
 use Rattle.encoding.specs.CountLaws.{length-upFrom, by-order}
 use Rattle.encoding.specs.Values.{Values}
-use Rattle.counters.specs.Counters.{Counters, readWhole, numberAsks, rowBit, number, askBit, countersOf, counters, rowAt, askAt}
+use Rattle.counters.specs.Counters.{Counters, readWhole, numberAsks, rowBit, number, askBit, countersOf, counters, rowAt}
 use Rattle.counters.specs.Weights.{once, weighs, whole-is-once}
 use Rattle.counters.specs.PlacesKept.{PlacesKept, kept-same, kept-none}
 
@@ -83,15 +83,15 @@ module _ (values : Values) (clause : ℕ → List ℕ) (clauses : ℕ) where
   unfolding askBit number
   ask-number c e = by-test (ltb c clauses) (λ b. rw (e, b, number)) (λ b. rw b)
 
-  pub ask-inside : clauses ≤ 640 → (c : ℕ) → c < clauses → askAt (countersOf values clause clauses .asking) c ≡ numberAsks (readWhole values (clause c))
-  unfolding countersOf askAt askBit
+  pub ask-inside : clauses ≤ 640 → (c : ℕ) → c < clauses → among (countersOf values clause clauses .asking) c ≡ numberAsks (readWhole values (clause c))
+  unfolding countersOf among askBit
   ask-inside few c l =
       let place : 64 * (c / 64) + c % 64 ≡ c = omega arith in
       (rw place at (has-words askBits 10 (c / 64) (c % 64) (omega arith) (omega arith))) ∙ rw (lt-ltb c clauses l)
 
   module _ {rows counts asking : List ℕ} where
     pub kept-counters : PlacesKept (weighs values) clause clauses rows counts asking → counters rows counts asking ≡ countersOf values clause clauses
-    unfolding countersOf rowAt askAt rowBit
+    unfolding countersOf rowAt among rowBit
     kept-counters k = rw (rowed, counted, its-asking)
       where
         rowed : rows ≡ words rowBits 5120
@@ -117,7 +117,7 @@ module _ (values : Values) (clause : ℕ → List ℕ) (clauses : ℕ) where
             (rw (word, bit) at (k .asks (64 * i + j) (omega arith))) ∙ ask-number (64 * i + j) (numbered (64 * i + j) (omega arith)))
 
     pub counters-kept : clauses ≤ 640 → counters rows counts asking ≡ countersOf values clause clauses → PlacesKept (weighs values) clause clauses rows counts asking
-    unfolding countersOf rowAt askAt rowBit
+    unfolding countersOf rowAt among rowBit
     counters-kept few e =
         let rowed : rows ≡ words rowBits 5120 = ap (λ (x : Counters). x .rows) e in
         let counted : counts ≡ map numbers (upFrom 0 640) = ap (λ (x : Counters). x .counts) e in

@@ -6,7 +6,7 @@ use mathlib.Core.List.{List, map}
 use denote.Triple.Both.{Both}
 use lib.Dec.{eqb, leb, ltb}
 use lib.ListN.{length, getD}
-use Rattle.bits.specs.Bits.{has, packed}
+use Rattle.bits.specs.Bits.{has, packed, among}
 use Rattle.definitions.specs.Lists.{any, filter, distinct, upFrom}
 use Rattle.definitions.specs.ClauseNumbers.{Numbers}
 use Rattle.encoding.specs.Lent.{Array, Lent}
@@ -47,9 +47,6 @@ pub record Counters : Type 0 where
 -- whether clause c holds word w, and whether it asks
 unfoldable pub rowAt : List ℕ → ℕ → ℕ → Bool
 rowAt rows w c = has (c % 64) (getD rows (10 * w + c / 64) 0)
-
-unfoldable pub askAt : List ℕ → ℕ → Bool
-askAt asking c = has (c % 64) (getD asking (c / 64) 0)
 
 -- what they are for so many clauses: no other clause holds anything, counts or asks
 unfoldable pub rowBit : (ℕ → List ℕ) → ℕ → ℕ → ℕ → Bool

@@ -11,13 +11,13 @@ use lib.Seq.{getD-set-same, getD-set-other}
 use borrow.Author.Tests.{eqb-true, eqb-false, eq-eqb, ne-eqb, ltb-true, ltb-false, lt-ltb, le-ltb}
 use Rattle.definitions.specs.Lists.{any}
 use Rattle.theory.specs.Tests.{by-test}
-use Rattle.bits.specs.Bits.{has, has-put, put-below, has-shift, one-shifted}
+use Rattle.bits.specs.Bits.{has, has-put, put-below, has-shift, one-shifted, among}
 use Rattle.encoding.specs.ArrayLaws.{getD-set-each, getD-rising, part-snoc, part-nil}
 use Rattle.encoding.specs.Lengths.{literalArray}
 use Rattle.encoding.specs.Values.{Values}
 use Rattle.units.specs.Units.{clauseAt, ClausesFit}
 use Rattle.counters.specs.Weights.{one-if, once, any-snoc, once-snoc, weighs}
-use Rattle.counters.specs.Counters.{numberAsks, countersOf, counters, rowAt, askAt}
+use Rattle.counters.specs.Counters.{numberAsks, countersOf, counters, rowAt}
 use Rattle.counters.specs.CounterLaws.{kept-counters, counters-kept}
 use Rattle.counters.specs.PlacesKept.{PlacesKept}
 
@@ -117,7 +117,7 @@ module _ {f : ℕ → ℕ} {clause : ℕ → List ℕ} {c : ℕ} {rows counts as
   word = getD asking (c / 64) 0
 
   ask-free : has (c % 64) word ≡ false
-  unfolding askAt
+  unfolding among
   ask-free = k .asks c few ∙ rw (le-ltb c c (omega arith))
 
   module _ {n : ℕ} {rows′ : List ℕ} (e : Entering f c n (clause c) rows rows′) where
@@ -138,16 +138,16 @@ module _ {f : ℕ → ℕ} {clause : ℕ → List ℕ} {c : ℕ} {rows counts as
     in-counts : c < length counts
     in-counts = let s = k .sizes .0 in omega arith
 
-    ask-here : askAt (set asking (c / 64) next) c ≡ numberAsks n
-    unfolding askAt one-if
+    ask-here : among (set asking (c / 64) next) c ≡ numberAsks n
+    unfolding among one-if
     ask-here =
         rw (getD-set-same asking (c / 64) next 0 in-asking)
         (by-test (numberAsks n)
         (λ b. rw (b, one-if) (has-put (c % 64) (c % 64) word ask-free ∙ rw (eq-eqb (c % 64) (c % 64) refl) (or-true (has (c % 64) word))))
         (λ b. rw (b, one-if, add-zero word) ask-free))
 
-    ask-there : (d : ℕ) → (d ≡ c → ⊥) → askAt (set asking (c / 64) next) d ≡ askAt asking d
-    unfolding askAt one-if
+    ask-there : (d : ℕ) → (d ≡ c → ⊥) → among (set asking (c / 64) next) d ≡ among asking d
+    unfolding among one-if
     ask-there d far =
         by-test (eqb (d / 64) (c / 64))
         (λ q. let z = eqb-true (d / 64) (c / 64) q in

@@ -13,8 +13,8 @@ use lib.ListN.{length, getD, set, length-set}
 use lib.Seq.{getD-set-same, getD-set-other}
 use borrow.Author.Tests.{eqb-true, eqb-false, eq-eqb, ne-eqb, ltb-true, ltb-false, lt-ltb, le-ltb, le-leb, lt-leb}
 use Rattle.theory.specs.Tests.{by-test, and-left, and-right}
-use Rattle.bits.specs.Bits.{has, has-zero, lowest, has-lowest, has-less, has-or, has-taken, has-put, put-below, one-shifted}
-use Rattle.counters.specs.Counters.{numberAsks, rowAt, askAt}
+use Rattle.bits.specs.Bits.{has, has-zero, lowest, has-lowest, has-less, has-or, has-taken, has-put, put-below, one-shifted, among}
+use Rattle.counters.specs.Counters.{numberAsks, rowAt}
 use Rattle.counters.specs.Weights.{one-if}
 use Rattle.counters.specs.PlacesKept.{pick, Moved}
 
@@ -264,7 +264,7 @@ module _ (rows : List ℕ) (x : ℕ) {up down : ℕ} {counts₀ asking₀ : List
     unfolding one-if
     same-count c w q = let e = rw (behind rows x k c q, one-if) at (m .moved c w) in omega arith
 
-    same-ask : (c : ℕ) → c < 640 → c / 64 ≡ k → askAt asking c ≡ askAt asking₀ c
+    same-ask : (c : ℕ) → c < 640 → c / 64 ≡ k → among asking c ≡ among asking₀ c
     unfolding pick
     same-ask c w q = rw (behind rows x k c q, pick) at (m .asks c w)
 
@@ -284,8 +284,8 @@ module _ (rows : List ℕ) (x : ℕ) {up down : ℕ} {counts₀ asking₀ : List
       next-has : (j : ℕ) → has j (bitOr (a - bitAnd a bits) low) ≡ ((has j a && not (has j bits)) || has j low)
       next-has j = has-or j (a - bitAnd a bits) low ∙ ap (λ (b : Bool). b || has j low) (has-less j a bits)
 
-      now-ask : (c : ℕ) → c / 64 ≡ k → askAt (set asking k next) c ≡ ((askAt asking c && not (has (c % 64) bits)) || has (c % 64) low)
-      unfolding askAt
+      now-ask : (c : ℕ) → c / 64 ≡ k → among (set asking k next) c ≡ ((among asking c && not (has (c % 64) bits)) || has (c % 64) low)
+      unfolding among
       now-ask c q = rw (q, getD-set-same asking k next 0 (let s = m .sizes .1 in omega arith)) (next-has (c % 64) ∙ rw before)
 
       here-in : (c : ℕ) → c / 64 ≡ k → inWord k bits c ≡ has (c % 64) bits
@@ -300,11 +300,11 @@ module _ (rows : List ℕ) (x : ℕ) {up down : ℕ} {counts₀ asking₀ : List
       unfolding one-if
       far-count c w n = let e = rw (far-in c n, one-if) at (d .moved c w) in omega arith
 
-      far-ask : (c : ℕ) → (c / 64 ≡ k → ⊥) → askAt (set asking k next) c ≡ askAt asking c
-      unfolding askAt
+      far-ask : (c : ℕ) → (c / 64 ≡ k → ⊥) → among (set asking k next) c ≡ among asking c
+      unfolding among
       far-ask c n = rw (getD-set-other asking k (c / 64) next 0 n)
 
-      turn-asks : (c : ℕ) → c < 640 → askAt (set asking k next) c ≡ pick (firstOf rows x (k + 1) c) (numberAsks (getD counts′ c 0)) (askAt asking₀ c)
+      turn-asks : (c : ℕ) → c < 640 → among (set asking k next) c ≡ pick (firstOf rows x (k + 1) c) (numberAsks (getD counts′ c 0)) (among asking₀ c)
       unfolding pick
       turn-asks c w =
           by-test (eqb (c / 64) k)
@@ -314,8 +314,8 @@ module _ (rows : List ℕ) (x : ℕ) {up down : ℕ} {counts₀ asking₀ : List
           let low-is : has (c % 64) low ≡ (has (c % 64) bits && numberAsks (getD counts′ c 0)) = rw p at (d .lows (c % 64) (omega arith)) in
           rw (here-row rows x k is c q)
           (by-test (has (c % 64) bits)
-          (λ b. rw (b, pick) (now-ask c q ∙ rw (low-is, b, and-false (askAt asking c))))
-          (λ b. rw (b, pick) (now-ask c q ∙ rw (low-is, b, and-true (askAt asking c)) (or-false (askAt asking c)) ∙ same-ask c w q))))
+          (λ b. rw (b, pick) (now-ask c q ∙ rw (low-is, b, and-false (among asking c))))
+          (λ b. rw (b, pick) (now-ask c q ∙ rw (low-is, b, and-true (among asking c)) (or-false (among asking c)) ∙ same-ask c w q))))
           (λ e.
           let n = eqb-false (c / 64) k e in
           rw (far-row rows x k c n, far-count c w n) (far-ask c n ∙ m .asks c w))

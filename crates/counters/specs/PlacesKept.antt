@@ -11,9 +11,9 @@ use lib.Pow.{pow-pos}
 use borrow.Author.Tests.{ltb-true, lt-ltb, le-ltb}
 use Rattle.definitions.specs.Lists.{any}
 use Rattle.theory.specs.Tests.{by-test, and-left}
-use Rattle.bits.specs.Bits.{has-zero}
+use Rattle.bits.specs.Bits.{has-zero, among}
 use Rattle.encoding.specs.ArrayLaws.{getD-repeated}
-use Rattle.counters.specs.Counters.{numberAsks, rowAt, askAt}
+use Rattle.counters.specs.Counters.{numberAsks, rowAt}
 use Rattle.counters.specs.Weights.{one-if, once, WeightStep, step-sum}
 
 -- a clause's number is its weight; behind the clauses all is 0
@@ -24,7 +24,7 @@ pub record PlacesKept (f : ℕ → ℕ) (clause : ℕ → List ℕ) (clauses : �
   pub held : (x c : ℕ) → x < 512 → c < 640 → rowAt rows x c ≡ (ltb c clauses && any (eqb x) (clause c))
   pub count : (c : ℕ) → c < clauses → getD counts c 0 ≡ once f (clause c)
   pub free : (c : ℕ) → clauses ≤ c → c < 640 → getD counts c 0 ≡ 0
-  pub asks : (c : ℕ) → c < 640 → askAt asking c ≡ (ltb c clauses && numberAsks (getD counts c 0))
+  pub asks : (c : ℕ) → c < 640 → among asking c ≡ (ltb c clauses && numberAsks (getD counts c 0))
 
 unfoldable pub pick : Bool → Bool → Bool → Bool
 pick true a b = a
@@ -35,7 +35,7 @@ pub record Moved (row : ℕ → Bool) (up down : ℕ) (counts asking counts′ a
   pub sizes : (length counts′ ≡ length counts) × (length asking′ ≡ length asking)
   pub below : (i : ℕ) → getD asking i 0 < 2 ^ 64 → getD asking′ i 0 < 2 ^ 64
   pub moved : (c : ℕ) → c < 640 → getD counts′ c 0 + one-if (row c) down ≡ getD counts c 0 + one-if (row c) up
-  pub asks : (c : ℕ) → c < 640 → askAt asking′ c ≡ pick (row c) (numberAsks (getD counts′ c 0)) (askAt asking c)
+  pub asks : (c : ℕ) → c < 640 → among asking′ c ≡ pick (row c) (numberAsks (getD counts′ c 0)) (among asking c)
 
 module _ {f g : ℕ → ℕ} {x up down : ℕ} {clause : ℕ → List ℕ} {clauses : ℕ} {rows counts asking counts′ asking′ : List ℕ} where
   -- over the clauses that hold the word whose weight changes
@@ -63,10 +63,10 @@ module _ {f g : ℕ → ℕ} {x up down : ℕ} {clause : ℕ → List ℕ} {clau
         by-test (rowAt rows x c)
         (λ h.
         let inside = and-left (ltb c clauses) (any (eqb x) (clause c)) (sym (k .held x c small within) ∙ h) in
-        let e : askAt asking′ c ≡ numberAsks (getD counts′ c 0) = rw (h, pick) at (m .asks c within) in
+        let e : among asking′ c ≡ numberAsks (getD counts′ c 0) = rw (h, pick) at (m .asks c within) in
         rw (e, inside))
         (λ h.
-        let e : askAt asking′ c ≡ askAt asking c = rw (h, pick) at (m .asks c within) in
+        let e : among asking′ c ≡ among asking c = rw (h, pick) at (m .asks c within) in
         let n = rw (h, one-if) at (m .moved c within) in
         let q : getD counts′ c 0 ≡ getD counts c 0 = omega arith in
         rw (e, q) (k .asks c within));
@@ -87,7 +87,7 @@ kept-same {f = f} {clauses = clauses} h k = record {
 
 -- with no clauses the arrays are all 0
 pub kept-none : (f : ℕ → ℕ) (clause : ℕ → List ℕ) → PlacesKept f clause 0 (replicate {A = ℕ} 5120 0) (replicate {A = ℕ} 640 0) (replicate {A = ℕ} 10 0)
-unfolding rowAt askAt
+unfolding rowAt among
 kept-none f clause = record {
   few = omega arith;
   below = (λ i. rw (getD-repeated {A = ℕ} 0 5120 i) (pow-pos 64), λ i. rw (getD-repeated {A = ℕ} 0 10 i) (pow-pos 64));

@@ -4,9 +4,10 @@ ghost use mathlib.Core.Bool.{true};
 ghost use mathlib.Core.List.{List};
 ghost use Prim.Native.Nat.{ℕ, _+_, _-_, _≤_, _<_};
 ghost use lib.ListN.{getD, take, drop};
+ghost use Rattle.bits.specs.Bits.{among};
 ghost use Rattle.encoding.specs.Lengths.{literalArray};
 ghost use Rattle.units.specs.Units.{clauseAt, actAt, actFrom, ClausesFit};
-ghost use Rattle.counters.specs.Counters.{readWhole, counters, countersOf, askAt};
+ghost use Rattle.counters.specs.Counters.{readWhole, counters, countersOf};
 ghost use Rattle.counters.specs.ByNumber.{firstOpen, maySetAt};
 ghost use Rattle.counters.specs.Asking.{Unasked};
 use crate::PLACES;
@@ -22,7 +23,7 @@ use units::UnitAct;
 // The first clause from c on that asks, or a number that no clause has.
 fn next_asking(asking: &[u64; WORDS], c: usize, clauses: usize) -> usize
     requires { ⌜ (c ≤ 640) × (clauses ≤ 640) ⌝ }
-    ensures { λ r. ⌜ (c ≤ r) × (r ≤ 640) × Unasked (now (asking .entry)) c r × (r < clauses → askAt (now (asking .entry)) r ≡ true) ⌝ }
+    ensures { λ r. ⌜ (c ≤ r) × (r ≤ 640) × Unasked (now (asking .entry)) c r × (r < clauses → among (now (asking .entry)) r ≡ true) ⌝ }
 {
     let mut i = c;
     while i < clauses {

@@ -11,6 +11,7 @@ use mathlib.Core.Logic.{_⊎_}
 use mathlib.Core.Bool.{true, false, _||_}
 use mathlib.Core.List.{List, [], _++_, map}
 use lib.ListN.{length, take, drop}
+use Rattle.bits.specs.Bits.{among}
 use Rattle.definitions.specs.Lists.{_∈_, Different, all, joined, distinct, upFrom}
 use Rattle.definitions.specs.Bounds.{sheetBytes, roomBytes, mostAtoms, mostExported, exportBytes}
 use Rattle.definitions.specs.Words.{Atom, Literal, sameLiteral, Clause, Rule, TwoWay, twoWay, Problem, goalAtoms}
@@ -73,7 +74,7 @@ use Rattle.encoding.specs.declared.Sizes.{Sizes}
 use Rattle.machine.specs.Machine.{Machine, Loaded}
 use Rattle.machine.specs.Loading.{accepted-arrays}
 use Rattle.machine.specs.RunStands.{valuesAfter, run-words}
-use Rattle.counters.specs.Counters.{Counters, told, askAt}
+use Rattle.counters.specs.Counters.{Counters, told}
 use Rattle.machine.specs.CountsStand.{KeptAfter, countersAfter, run-numbers}
 use Rattle.cnf_reader.specs.CnfArrays.{cnfRead, heldClauses}
 use Rattle.cnf_reader.specs.CnfArrayLaws.{cnf-held}
@@ -485,7 +486,7 @@ module _ (p : Problem) (sizes : Sizes) (rules : List ℕ) (m : Machine) (loaded 
   request-8 = run-numbers p sizes rules m loaded budget steps k kept .numbers
 
   -- and one bit a clause says whether none is true and at most one is not false.
-  pub request-8-asking : map (askAt (k .asking)) (upFrom 0 (length clauses)) ≡ map (λ (c : Clause). mayAct (clauseNumbers (reached p budget steps .trail) c)) clauses
+  pub request-8-asking : map (among (k .asking)) (upFrom 0 (length clauses)) ≡ map (λ (c : Clause). mayAct (clauseNumbers (reached p budget steps .trail) c)) clauses
   request-8-asking = run-numbers p sizes rules m loaded budget steps k kept .asking
 
 -- Among the clauses with this bit alone the unit step's choice is the one that it makes among all.

@@ -3,8 +3,8 @@ use Prim.Native.Nat.{_+_, _-_, _≤_, _<_}
 use mathlib.Core.Path.{_≡_}
 use mathlib.Core.Bool.{true}
 use native.Mathlib.Omega.{arith}
+use Rattle.bits.specs.Bits.{among}
 use Rattle.units.specs.Units.{actFrom}
-use Rattle.counters.specs.Counters.{askAt}
 use Rattle.counters.specs.Asking.{its-number, asks-few, ask-next}
 use Rattle.counters.proofs.ActTurns.{fit-first, act-start, act-turn, act-hit, act-hit-force, act-end}
 use borrow.Author.Needs.{needs}
@@ -13,7 +13,7 @@ use Rattle.counters.proofs.asking.next_act.Tie as tie
 
 abbrev Inv-loop : tie.InvT-loop
 Inv-loop values starts literals heads counts asking given goals clauses c₀ c =
-    (c ≤ 640) × (c < clauses → askAt asking c ≡ true)
+    (c ≤ 640) × (c < clauses → among asking c ≡ true)
     × (actFrom values starts literals heads given goals c (clauses - c) ≡ actFrom values starts literals heads given goals 0 clauses)
 
 abbrev μ-loop : tie.MeasureT-loop
