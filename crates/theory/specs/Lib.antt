@@ -33,6 +33,7 @@ pub mod NumberLaws
 pub mod Theorems
 pub mod CallLaws
 pub mod Quiet
+pub mod Recent
 pub mod CnfText
 pub mod CnfReads
 pub mod CnfRefusals
