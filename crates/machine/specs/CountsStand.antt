@@ -9,6 +9,7 @@ use lib.Dec.{leb}
 use lib.ListN.{length, take, length-map, length-append}
 use lib.Seq.{take-at}
 use borrow.Author.Tests.{leb-true, leb-false, le-leb, lt-leb}
+use Rattle.bits.specs.Bits.{among}
 use Rattle.definitions.specs.Lists.{_∈_, any, filter, distinct, upFrom}
 use Rattle.definitions.specs.Words.{Atom, Literal, sameLiteral, Clause, Problem}
 use Rattle.definitions.specs.Instances.{taskOf}
@@ -31,7 +32,7 @@ use Rattle.encoding.specs.Values.{Values, trueWord}
 use Rattle.encoding.specs.declared.Sizes.{Sizes}
 use Rattle.units.specs.Units.{clauseAt}
 use Rattle.units.specs.FalseWords.{words-left, not-false-words}
-use Rattle.counters.specs.Counters.{countNotFalse, countTrue, readWhole, told, numberAsks, number, Counters, countersOf, askAt}
+use Rattle.counters.specs.Counters.{countNotFalse, countTrue, readWhole, told, numberAsks, number, Counters, countersOf}
 use Rattle.counters.specs.CounterLaws.{number-here, ask-inside}
 use Rattle.machine.specs.Machine.{Machine, StandsWith, NextStands, Loaded}
 use Rattle.machine.specs.MachineSteps.{machineRun, runAfter}
@@ -93,7 +94,7 @@ first-of g n k l =
 -- what the counters of a state say: the kept numbers are those found by reading each clause whole, and each clause asks by them
 pub record NumbersStand (p : Problem) (s : State) (k : Counters) : Type 0 where
   pub numbers : map told (take (length (clausesOf (p .clauses) s)) (k .counts)) ≡ map (clauseNumbers (s .trail)) (clausesOf (p .clauses) s)
-  pub asking : map (askAt (k .asking)) (upFrom 0 (length (clausesOf (p .clauses) s))) ≡ map (λ (c : Clause). mayAct (clauseNumbers (s .trail) c)) (clausesOf (p .clauses) s)
+  pub asking : map (among (k .asking)) (upFrom 0 (length (clausesOf (p .clauses) s))) ≡ map (λ (c : Clause). mayAct (clauseNumbers (s .trail) c)) (clausesOf (p .clauses) s)
 
 -- a number asks by what it says
 asks-told : (n : ℕ) → numberAsks n ≡ mayAct (told n)
@@ -151,10 +152,10 @@ module _ {Counts : Type 0} (p : Problem) (limits : Searchable p) (s : State) (m 
       ∙ map-map told kept (upFrom 0 (r .clauses))
       ∙ each-clause (λ (i : ℕ). told (kept i)) (clauseNumbers (s .trail)) (λ i c below its same. ap told (number-here (m .trail .values) words (r .clauses) i below) ∙ clause-told i c its same)
 
-  asking-told : map (askAt (countersIn m r .asking)) (upFrom 0 (length all)) ≡ map (λ (c : Clause). mayAct (clauseNumbers (s .trail) c)) all
+  asking-told : map (among (countersIn m r .asking)) (upFrom 0 (length all)) ≡ map (λ (c : Clause). mayAct (clauseNumbers (s .trail) c)) all
   asking-told =
-      ap (λ (n : ℕ). map (askAt (countersIn m r .asking)) (upFrom 0 n)) its-count
-      ∙ each-clause (askAt (countersIn m r .asking)) (λ (c : Clause). mayAct (clauseNumbers (s .trail) c))
+      ap (λ (n : ℕ). map (among (countersIn m r .asking)) (upFrom 0 n)) its-count
+      ∙ each-clause (among (countersIn m r .asking)) (λ (c : Clause). mayAct (clauseNumbers (s .trail) c))
       (λ i c below its same. ask-inside (m .trail .values) words (r .clauses) few i below ∙ asks-told (readWhole (m .trail .values) (words i)) ∙ ap mayAct (clause-told i c its same))
 
   pub numbers-stand : NumbersStand p s (countersIn m r)

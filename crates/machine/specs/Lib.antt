@@ -10,6 +10,7 @@ pub mod SearchStands
 pub mod Following
 pub mod FollowingLaws
 pub mod MaskStands
+pub mod AgendaStands
 pub mod Upkeep
 pub mod Stepping
 pub mod Loading

@@ -15,9 +15,11 @@ use Rattle.encoding.specs.Slots.{ruleWords}
 use Rattle.encoding.specs.Values.{noValues}
 use Rattle.encoding.specs.Encoding.{atomCode, clauseWords, startsFrom, Arrays, arrays, hold, sizesOf, emptyIndex}
 use Rattle.encoding.specs.declared.Sizes.{Sizes}
-use Rattle.machine.specs.Machine.{Machine, machine, Stands, RulesStand, EndStands, EndsRun, Lengths, Loaded}
+use Rattle.machine.specs.Machine.{Machine, machine, Stands, RulesStand, Running, EndStands, EndsRun, Lengths, Loaded}
 use Rattle.machine.specs.MachineStart.{rules-stand, machine-start}
 use Rattle.machine.specs.SearchStands.{search-stands}
+use Rattle.agenda.specs.Agenda.{Users}
+use Rattle.machine.specs.FollowingLaws.{noneAwake}
 use Rattle.machine.specs.Upkeep.{upkeepOf}
 use Rattle.machine.specs.Stepping.{Stepping, start-follow}
 use Rattle.machine.specs.declared.Run.{Run}
@@ -63,13 +65,17 @@ module _ (p : Problem) (sizes : Sizes) (budget : ℕ) (rules : List ℕ) (m : Ma
       (m .store .heads) (m .store .numbers) (m .trail .values) (m .trail .words) (m .trail .marks)
       (lengths .ofHeads) (lengths .ofNumbers) (loaded .unset) (lengths .ofTrail) (lengths .ofMarks))
 
-  -- a step can be made, with masks that hold nothing
-  pub loaded-stepping : budget < 2 ^ 32
-      → Stepping budget rules sizes m (startRun sizes) (upkeepOf (replicate 104544 0) (replicate 3072 0) (replicate 3072 0) (replicate 2 0))
-  loaded-stepping small =
+  abbrev pub loaded-running : budget < 2 ^ 32 → Running budget rules sizes m (startRun sizes)
+  loaded-running small = record { problem = p; state = start (taskOf p); rulesStand = loaded-rules; counts = loaded .counts; stands = loaded-stands; small = small }
+
+  -- a step can be made, with masks that hold nothing while all rules sleep
+  pub loaded-stepping : budget < 2 ^ 32 → (users : List ℕ) → Users rules (sizes .rules) users
+      → Stepping budget rules users sizes m (startRun sizes) (upkeepOf (replicate 104544 0) (replicate 3072 0) (replicate 3072 0) (replicate 1 0) noneAwake (replicate 128 0))
+  loaded-stepping small users its =
       record {
-        running = record { problem = p; state = start (taskOf p); rulesStand = loaded-rules; counts = loaded .counts; stands = loaded-stands; small = small };
+        running = loaded-running small;
         follow = start-follow p (loaded .limits);
+        itsUsers = its;
       }
 
   -- where the loop came to an end, the search did
