@@ -1,9 +1,10 @@
 #!/usr/bin/env python3
 """sheets.py FOLDER: writes the sheets of the bench, FAMILY_NAME.sheet.
 
-Four families: a cycles and lines of an order, closed under transitivity; b searches with many decisions
+Five families: a cycles and lines of an order, closed under transitivity; b searches with many decisions
 and conflicts; c joins of three heads, in which step B does the work; d build sheets of a timing machine,
-as an order desk and a drawing office would write them. Every sheet is the same in every run."""
+as an order desk and a drawing office would write them; e worst cases for step B, in a small size. Every
+sheet is the same in every run."""
 
 import os
 import random
@@ -196,6 +197,142 @@ def machine(heads, amplifiers, holders, others, seed, crossed=False):
     return sheet
 
 
+# ---- e: worst cases. Free atoms are decided first, and below them four clauses have no way out: UNSAT after
+# all choices. With more constants, literals, rules and free atoms these spend any budget.
+
+def free(sheet, symbol, count, *last):
+    for first in range(1, count + 1, 8):
+        sheet.clause(*[(symbol, k) + last for k in range(first, min(first + 8, count + 1))])
+
+
+def no_way_out(sheet):
+    p, q = sheet.symbol(0), sheet.symbol(0)
+    for x in (p, -p):
+        for y in (q, -q):
+            sheet.clause((x,), (y,))
+
+
+def facts(sheet, symbol, count, *last):
+    for k in range(1, count + 1):
+        sheet.clause((symbol, k) + last)
+
+
+def star(constants, rows, columns, rule_count, free_count):
+    """Every pair of the literals t, with a third, is an instance and satisfied. Each decision adds a t with a
+    shared constant of its own."""
+    sheet = Sheet(constants)
+    f, row, column, t, w = (sheet.symbol(arity) for arity in (1, 2, 2, 3, 0))
+    sheet.rule([(row, 1, 3), (column, 2, 3)], [(t, 1, 2, 3)])
+    for sign in (f, -f):
+        sheet.rule([(sign, 1)], [(t, -constants, 1, -constants)])
+    for _ in range(rule_count):
+        sheet.rule([(t, 1, 2, 6), (t, 3, 4, 6), (t, -1, 5, 6)], [(w,), (t, 1, 2, 6)])
+    facts(sheet, row, rows, 1)
+    facts(sheet, column, columns, 1)
+    sheet.clause((w,))
+    free(sheet, f, free_count)
+    no_way_out(sheet)
+    return sheet
+
+
+def undecided(constants, rows, columns, rule_count):
+    """The joins of star stand before the rule that makes their literals: one t after the other is logged, and
+    no decision is made."""
+    sheet = Sheet(constants)
+    row, column, t, w = (sheet.symbol(arity) for arity in (2, 2, 3, 0))
+    for _ in range(rule_count):
+        sheet.rule([(t, 1, 2, 6), (t, 3, 4, 6), (t, -1, 5, 6)], [(w,), (t, 1, 2, 6)])
+    sheet.rule([(row, 1, 3), (column, 2, 3)], [(t, 1, 2, 3)])
+    facts(sheet, row, rows, 1)
+    facts(sheet, column, columns, 1)
+    sheet.clause((w,))
+    return sheet
+
+
+def big_join(constants, rule_count, free_count):
+    """Every decision is a head of every rule; the two other heads are a big join, satisfied."""
+    sheet = Sheet(constants)
+    d, f, a, b, pair = (sheet.symbol(arity) for arity in (1, 2, 3, 3, 2))
+    sheet.rule([(d, 1)], [(a, 1, -1, -1), (a, 1, -2, -1)])
+    sheet.rule([(d, 1)], [(b, 1, -1, -1), (b, 1, -2, -1)])
+    sheet.rule([(a, 1, 2, 5), (b, 3, 4, 5)], [(pair, 2, 4)])
+    for k in range(rule_count):
+        sheet.rule([(f if k % 2 else -f, 5, 6), (a, 3, 1, 6), (b, 4, 2, 6)], [(pair, 1, 2)])
+    facts(sheet, d, constants)
+    free(sheet, f, free_count, 1)
+    no_way_out(sheet)
+    return sheet
+
+
+def knot(constants, side, rule_count, free_count):
+    """Like big_join, but all variables hang together by the heads and two body literals of three variables."""
+    sheet = Sheet(constants)
+    f, z, e, t, cube = (sheet.symbol(arity) for arity in (1, 2, 2, 3, 3))
+    sheet.rule([(z, 1, 4), (z, 2, 4), (z, 3, 4)], [(t, 1, 2, 3), (cube, 1, 2, 3)])
+    for sign in (f, -f):
+        sheet.rule([(sign, 1)], [(e, 1, -1), (e, 1, -2)])
+    for _ in range(rule_count):
+        sheet.rule([(e, 6, 1), (t, 1, 3, 5), (t, 2, 4, 1)], [(cube, 3, 4, 5), (cube, 1, 2, 5)])
+    facts(sheet, z, side, 1)
+    free(sheet, f, free_count)
+    no_way_out(sheet)
+    return sheet
+
+
+def echo(constants, rows, columns, rule_count, free_count):
+    """All literals t are set anew by either choice of g, and all their pairs are instances, satisfied by bodies
+    that repeat a variable: whoever doesn't ask about these on the way goes over all pairs."""
+    sheet = Sheet(constants)
+    f, g, row, column, t = (sheet.symbol(arity) for arity in (1, 1, 2, 2, 3))
+    for sign in (g, -g):
+        sheet.rule([(sign, 3), (row, 1, 3), (column, 2, 3)], [(t, 1, 2, 3)])
+    for _ in range(rule_count):
+        sheet.rule([(t, 1, 2, 6), (t, 3, 4, 6), (t, -1, 5, 6)], [(t, 1, 1, 6), (t, 3, 3, 6)])
+    facts(sheet, row, rows, 1)
+    facts(sheet, column, columns, 1)
+    free(sheet, f, free_count)
+    sheet.clause((g, 1), (-g, 1))
+    no_way_out(sheet)
+    return sheet
+
+
+def dead_end(constants, parts, columns, rule_count, free_count):
+    """No instance at all: t and s never agree on the last variable, and each new e is held against all pairs
+    of them."""
+    sheet = Sheet(constants)
+    f, g, part, column, e, t, s, r = (sheet.symbol(arity) for arity in (1, 1, 2, 2, 2, 3, 3, 2))
+    sheet.rule([(part, 1, 3), (column, 2, 3)], [(s, 1, 2, 3)])
+    sheet.rule([(part, 1, 3)], [(t, -1, 1, -constants)])
+    for sign in (g, -g):
+        sheet.rule([(sign, 3), (part, 1, 3)], [(e, 1, -1)])
+    for _ in range(rule_count):
+        sheet.rule([(e, 5, 1), (t, 1, 2, 6), (s, 3, 4, 6)], [(r, 5, 1), (r, 1, 5)])
+    facts(sheet, part, parts, 1)
+    facts(sheet, column, columns, 1)
+    free(sheet, f, free_count)
+    sheet.clause((g, 1), (-g, 1))
+    no_way_out(sheet)
+    return sheet
+
+
+def diagonal(constants, rows, columns, rule_count, free_count):
+    """No instance at all: no t has one constant twice, which only the test of all heads tells."""
+    sheet = Sheet(constants)
+    f, g, row, column, e, t, r = (sheet.symbol(arity) for arity in (1, 1, 2, 2, 2, 3, 2))
+    for sign in (g, -g):
+        sheet.rule([(sign, 3), (row, 1, 3), (column, 2, 3)], [(t, 1, 2, 3)])
+        sheet.rule([(sign, 3), (row, 1, 3)], [(e, 1, 3)])
+    for _ in range(rule_count):
+        sheet.rule([(e, 5, 6), (t, 1, 2, 6), (t, 3, 3, 6)], [(r, 5, 6), (r, 6, 5)])
+    facts(sheet, row, rows, 1)
+    for k in range(rows + 1, rows + columns + 1):
+        sheet.clause((column, k, 1))
+    free(sheet, f, free_count)
+    sheet.clause((g, 1), (-g, 1))
+    no_way_out(sheet)
+    return sheet
+
+
 U, T, OUT = 1, 2, 3
 SHEETS = {
     'a_cycle_08': cycle(8), 'a_cycle_12': cycle(12), 'a_cycle_16': cycle(16), 'a_cycle_20': cycle(20),
@@ -214,6 +351,9 @@ SHEETS = {
     'd_machine_3': machine(4, 4, 4, 4, 19), 'd_machine_4': machine(4, 4, 5, 5, 12),
     'd_machine_5': machine(6, 6, 5, 5, 7), 'd_crossed_1': machine(4, 4, 4, 4, 19, True),
     'd_crossed_2': machine(5, 5, 5, 6, 30, True), 'd_crossed_3': machine(6, 6, 5, 5, 29, True),
+    'e_star': star(6, 4, 5, 4, 4), 'e_undecided': undecided(6, 5, 6, 3), 'e_big_join': big_join(6, 8, 4),
+    'e_knot': knot(6, 4, 16, 4), 'e_echo': echo(6, 5, 6, 3, 3), 'e_dead_end': dead_end(7, 6, 6, 8, 3),
+    'e_diagonal': diagonal(11, 6, 5, 8, 3),
 }
 
 
