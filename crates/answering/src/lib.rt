@@ -1,13 +1,13 @@
 // A sheet that is lent rooms large enough: read and searched, listed, and, where that is wanted, its clauses written as DIMACS CNF.
 // The calls above ask about what is lent. They share one function, so that the search is there once in a program.
 ghost use Rattle.std.specs.Prelude.{ℕ, ◌≤◌, ◌≡◌, true, [], length};
-ghost use Rattle.definitions.specs.Bounds.{roomBytes, export_bytes};
+ghost use Rattle.definitions.specs.Bounds.{room_bytes, export_bytes};
 ghost use Rattle.definitions.specs.Words.{Problem};
-ghost use Rattle.definitions.specs.Questions.{accepted as acceptedOf, read};
+ghost use Rattle.definitions.specs.Questions.{accepted as accepted_of, read};
 ghost use Rattle.definitions.specs.Search.{State};
-ghost use Rattle.definitions.specs.Listing.{listing as listingOf};
-ghost use Rattle.definitions.specs.Dimacs.{cnfOf, cnfText};
-ghost use Rattle.definitions.specs.Call.{ended as endedIn, answered as answeredOf};
+ghost use Rattle.definitions.specs.Listing.{listing as listing_of};
+ghost use Rattle.definitions.specs.Dimacs.{cnf_of, cnf_text};
+ghost use Rattle.definitions.specs.Call.{ended as ended_in, answered as answered_of};
 ghost use Rattle.machine.specs.Finished.{Finished};
 ghost use Rattle.answering.specs.Solving.{text_of, SolvedAs};
 
@@ -38,9 +38,9 @@ fn listed(
     values: &Values,
 ) -> Solved
     requires { (p : Problem) × (budget : ℕ) × (s : State) × Finished p budget s ended given arities.now starts.now literals.now numbers.now table.now values.now
-        × (length (listingOf ended.verdict s) ≤ length room.old) }
+        × (length (listing_of ended.verdict s) ≤ length room.old) }
     ensures { (p : Problem) (budget : ℕ) (s : State) → Finished p budget s ended given arities.now starts.now literals.now numbers.now table.now values.now
-        → length (listingOf ended.verdict s) ≤ length room.old → SolvedAs (endedIn ended.verdict s) [] room.old [] result room.new [] }
+        → length (listing_of ended.verdict s) ≤ length room.old → SolvedAs (ended_in ended.verdict s) [] room.old [] result room.new [] }
 {
     let length = listing::put_listing(
         room, ended, given, arities, starts, literals, numbers, table, values,
@@ -76,10 +76,10 @@ fn made(
     values: &Values,
 ) -> Solved
     requires { (p : Problem) × (budget : ℕ) × (s : State) × Finished p budget s ended given arities.now starts.now literals.now numbers.now table.now values.now
-        × (length (listingOf ended.verdict s) ≤ length room.old) × (wanted ≡ true → length (cnfText (cnfOf p.clauses s)) ≤ length cnf.old) }
+        × (length (listing_of ended.verdict s) ≤ length room.old) × (wanted ≡ true → length (cnf_text (cnf_of p.clauses s)) ≤ length cnf.old) }
     ensures { (p : Problem) (budget : ℕ) (s : State) → Finished p budget s ended given arities.now starts.now literals.now numbers.now table.now values.now
-        → length (listingOf ended.verdict s) ≤ length room.old → (wanted ≡ true → length (cnfText (cnfOf p.clauses s)) ≤ length cnf.old)
-        → SolvedAs (endedIn ended.verdict s) (text_of wanted (acceptedOf p) (endedIn ended.verdict s)) room.old cnf.old result room.new cnf.new }
+        → length (listing_of ended.verdict s) ≤ length room.old → (wanted ≡ true → length (cnf_text (cnf_of p.clauses s)) ≤ length cnf.old)
+        → SolvedAs (ended_in ended.verdict s) (text_of wanted (accepted_of p) (ended_in ended.verdict s)) room.old cnf.old result room.new cnf.new }
 {
     let solved = listed(
         room, given, ended, arities, starts, literals, numbers, table, values,
@@ -100,8 +100,8 @@ fn made(
 
 // The calls with rooms that are large enough; where no text is wanted the further one may have any size.
 pub fn answered(sheet: &[u8], budget: u32, room: &mut [u8], cnf: &mut [u8], wanted: bool) -> Solved
-    requires { (roomBytes ≤ length room.old) × (wanted ≡ true → export_bytes ≤ length cnf.old) }
-    ensures { SolvedAs (answeredOf (read sheet.now) budget) (text_of wanted (read sheet.now) (answeredOf (read sheet.now) budget))
+    requires { (room_bytes ≤ length room.old) × (wanted ≡ true → export_bytes ≤ length cnf.old) }
+    ensures { SolvedAs (answered_of (read sheet.now) budget) (text_of wanted (read sheet.now) (answered_of (read sheet.now) budget))
         room.old cnf.old result room.new cnf.new }
 {
     let mut arities = [0u8; SYMBOLS];

@@ -20,12 +20,12 @@ unfoldable pub among : List ℕ → ℕ → Bool
 among words c = has (c % 64) (get_or words (c / 64) 0)
 
 -- so many bits of a word, its lowest standing for i: the numbers of those set, rising
-unfoldable pub bitsFrom : ℕ → ℕ → ℕ → List ℕ
-bitsFrom i zero m = []
-bitsFrom i (suc k) m = elim (eqb (m % 2) 1) [ true ↦ i ∷ bitsFrom (suc i) k (m / 2) | false ↦ bitsFrom (suc i) k (m / 2) ]
+unfoldable pub bits_from : ℕ → ℕ → ℕ → List ℕ
+bits_from i zero m = []
+bits_from i (suc k) m = elim (eqb (m % 2) 1) [ true ↦ i ∷ bits_from (suc i) k (m / 2) | false ↦ bits_from (suc i) k (m / 2) ]
 
 unfoldable pub bits_of : ℕ → List ℕ
-bits_of m = bitsFrom 0 32 m
+bits_of m = bits_from 0 32 m
 
 -- the word with the given bits, so many of them
 unfoldable pub packed : ℕ → (ℕ → Bool) → ℕ
@@ -37,19 +37,19 @@ by_bit w z o = ⊎_elim (λ e. z e) (λ p. o (omega arith)) (eq-zero-or-pos (w %
 
 -- ── the lowest bit is taken off ──
 
-pub bits_none : (i k : ℕ) → bitsFrom i k 0 ≡ []
-unfolding bitsFrom
+pub bits_none : (i k : ℕ) → bits_from i k 0 ≡ []
+unfolding bits_from
 bits_none i zero = refl
 bits_none i (suc k) = bits_none (suc i) k
 
 module _ (i k m : ℕ) where
-  pub bits-odd : m % 2 ≡ 1 → bitsFrom i (suc k) m ≡ i ∷ bitsFrom (suc i) k (m / 2)
-  unfolding bitsFrom
-  bits-odd e = rw (e, bitsFrom)
+  pub bits-odd : m % 2 ≡ 1 → bits_from i (suc k) m ≡ i ∷ bits_from (suc i) k (m / 2)
+  unfolding bits_from
+  bits-odd e = rw (e, bits_from)
 
-  bits-even : m % 2 ≡ 0 → bitsFrom i (suc k) m ≡ bitsFrom (suc i) k (m / 2)
-  unfolding bitsFrom
-  bits-even e = rw (e, bitsFrom)
+  bits-even : m % 2 ≡ 0 → bits_from i (suc k) m ≡ bits_from (suc i) k (m / 2)
+  unfolding bits_from
+  bits-even e = rw (e, bits_from)
 
 zeros-none : (m : ℕ) → count_trailing_zeros 0 m ≡ 0
 unfolding count_trailing_zeros
@@ -65,7 +65,7 @@ module _ (k m : ℕ) where
   zeros-even e = rw e
 
 pub lowest : (i k m : ℕ) → 0 < m → m < 2 ^ k
-    → (2 ^ count_trailing_zeros k m ≤ m) × (count_trailing_zeros k m < k) × (bitsFrom i k m ≡ (i + count_trailing_zeros k m) ∷ bitsFrom i k (m - 2 ^ count_trailing_zeros k m))
+    → (2 ^ count_trailing_zeros k m ≤ m) × (count_trailing_zeros k m < k) × (bits_from i k m ≡ (i + count_trailing_zeros k m) ∷ bits_from i k (m - 2 ^ count_trailing_zeros k m))
 lowest i zero m p l = absurd (omega arith)
 lowest i (suc k) m p l =
     by_bit m
@@ -76,13 +76,13 @@ lowest i (suc k) m p l =
     let (a, b, c) = lowest (suc i) k (m / 2) (omega arith) (omega arith) in
     let even : (m - 2 ^ suc t) % 2 ≡ 0 = omega arith in
     let half : (m - 2 ^ suc t) / 2 ≡ m / 2 - 2 ^ t = omega arith in
-    let next : bitsFrom i (suc k) (m - 2 ^ suc t) ≡ bitsFrom (suc i) k (m / 2 - 2 ^ t) = bits-even i k (m - 2 ^ suc t) even ∙ rw half in
+    let next : bits_from i (suc k) (m - 2 ^ suc t) ≡ bits_from (suc i) k (m / 2 - 2 ^ t) = bits-even i k (m - 2 ^ suc t) even ∙ rw half in
     let same : suc i + t ≡ i + suc t = omega arith in
     rw (zeros-even k m e) (omega arith, omega arith, bits-even i k m e ∙ c ∙ rw (same, next)))
     (λ e.
     let even : (m - 1) % 2 ≡ 0 = omega arith in
     let half : (m - 1) / 2 ≡ m / 2 = omega arith in
-    let next : bitsFrom i (suc k) (m - 1) ≡ bitsFrom (suc i) k (m / 2) = bits-even i k (m - 1) even ∙ rw half in
+    let next : bits_from i (suc k) (m - 1) ≡ bits_from (suc i) k (m / 2) = bits-even i k (m - 1) even ∙ rw half in
     rw (zeros-odd k m e) (omega arith, omega arith, bits-odd i k m e ∙ rw (add-zero i, next)))
 
 -- it is set, and none below it is
@@ -261,8 +261,8 @@ put-below (suc d) (suc n) m h l b =
 -- ── a bit is replaced ──
 
 -- bit c of the word is b, whatever it was
-unfoldable pub replaceBit : ℕ → ℕ → ℕ → ℕ
-replaceBit c b m = bit_or (m - bit_and m (2 ^ c)) (b * 2 ^ c)
+unfoldable pub replace_bit : ℕ → ℕ → ℕ → ℕ
+replace_bit c b m = bit_or (m - bit_and m (2 ^ c)) (b * 2 ^ c)
 
 has-shifted : (d c b : ℕ) → b < 2 → has d (b * 2 ^ c) ≡ (eqb b 1 && eqb c d)
 has-shifted d c zero l = rw (zero-mul (2 ^ c)) (has-zero d)
@@ -270,14 +270,14 @@ has-shifted d c (suc zero) l = rw (one-mul (2 ^ c)) (has-power d c)
 has-shifted d c (suc (suc b)) l = absurd (omega arith)
 
 module _ (c b m : ℕ) (small : b < 2) where
-  replaced-bits : (d : ℕ) → has d (replaceBit c b m) ≡ ((has d m && not (eqb c d)) || (eqb b 1 && eqb c d))
-  unfolding replaceBit
+  replaced-bits : (d : ℕ) → has d (replace_bit c b m) ≡ ((has d m && not (eqb c d)) || (eqb b 1 && eqb c d))
+  unfolding replace_bit
   replaced-bits d = has-or d (m - bit_and m (2 ^ c)) (b * 2 ^ c) ∙ rw (has-less d m (2 ^ c), has-shifted d c b small, has-power d c)
 
-  pub replaced-here : has c (replaceBit c b m) ≡ eqb b 1
+  pub replaced-here : has c (replace_bit c b m) ≡ eqb b 1
   replaced-here = replaced-bits c ∙ rw (eq-eqb c c refl, and-false (has c m), and-true (eqb b 1))
 
-  pub replaced-elsewhere : (d : ℕ) → (c ≡ d → ⊥) → has d (replaceBit c b m) ≡ has d m
+  pub replaced-elsewhere : (d : ℕ) → (c ≡ d → ⊥) → has d (replace_bit c b m) ≡ has d m
   replaced-elsewhere d other = replaced-bits d ∙ rw (ne_eqb c d other, and-true (has d m), and-false (eqb b 1)) (or-false (has d m))
 
 -- ── words with the same bits ──

@@ -2,7 +2,7 @@
 ghost use Rattle.std.specs.Prelude.{◌≡◌, true, ◌-◌, ◌/◌, ◌%◌, ◌^◌, ◌≤◌, ◌<◌};
 ghost use Rattle.std.specs.Int.Bits.{bit_or};
 ghost use Rattle.std.specs.Int.Count.{count_trailing_zeros};
-ghost use Rattle.bits.specs.Bits.{has, replaceBit};
+ghost use Rattle.bits.specs.Bits.{has, replace_bit};
 
 use crate::wide32;
 
@@ -24,7 +24,7 @@ pub fn bit(m: u64, c: usize) -> u64
 // The word with a bit replaced, by 0 or 1.
 pub fn replace_bit(m: u64, c: usize, b: u64) -> u64
     requires { (c < 64) × (b < 2) }
-    ensures { result ≡ replaceBit c b m }
+    ensures { result ≡ replace_bit c b m }
 {
     let old = m & (1u64 << c);
     (m - old) | (b << c)

@@ -1,7 +1,7 @@
 -- What the functions over a place of a text hand back, as the definitions have it. Assumes nothing.
 use Rattle.std.specs.Prelude.{ℕ, ◌&&◌, List, leb, drop}
 use Rattle.definitions.specs.Questions.{Asked, no, yes, ◌>>=◌, ◌>>◌, ask}
-use Rattle.definitions.specs.Dimacs.{Front, front, expect, decimalAt, Header}
+use Rattle.definitions.specs.Dimacs.{Front, front, expect, decimal_at, Header}
 use Rattle.cnf_reader.specs.declared.parts.Behind.{Behind}
 use Rattle.cnf_reader.specs.declared.parts.Behind.TheVariants.{At, Nowhere}
 use Rattle.cnf_reader.specs.declared.parts.DecimalAt.{DecimalAt}
@@ -14,28 +14,28 @@ unfoldable pub place_of : ℕ → List ℕ → Behind → Asked (List ℕ)
 place_of q text (At next) = yes (drop next text)
 place_of q text Nowhere = no q
 
-unfoldable pub decimalOf : ℕ → List ℕ → DecimalAt → Asked (Front ℕ)
-decimalOf q text (Decimal size next) = yes (front size (drop next text))
-decimalOf q text NoDecimal = no q
+unfoldable pub decimal_of : ℕ → List ℕ → DecimalAt → Asked (Front ℕ)
+decimal_of q text (Decimal size next) = yes (front size (drop next text))
+decimal_of q text NoDecimal = no q
 
 -- the decimal, 0 where there is none
-unfoldable pub decimalSize : DecimalAt → ℕ
-decimalSize (Decimal size next) = size
-decimalSize NoDecimal = 0
+unfoldable pub decimal_size : DecimalAt → ℕ
+decimal_size (Decimal size next) = size
+decimal_size NoDecimal = 0
 
 -- a decimal between these limits, and the byte that ends it
 unfoldable pub number_at : ℕ → ℕ → ℕ → ℕ → List ℕ → Asked (Front ℕ)
 number_at q least most end bs = do
-  n ← decimalAt q bs
+  n ← decimal_at q bs
   ask q (leb least n.found && leb n.found most)
   behind ← expect q end n.behind
   yes (front n.found behind)
 
-unfoldable pub headerOf : List ℕ → HeaderAt → Asked (Front Header)
-headerOf text (Named atoms clauses next) = yes (front (record { atoms = atoms; clauses = clauses }) (drop next text))
-headerOf text NoHeader = no 21
+unfoldable pub header_of : List ℕ → HeaderAt → Asked (Front Header)
+header_of text (Named atoms clauses next) = yes (front (record { atoms = atoms; clauses = clauses }) (drop next text))
+header_of text NoHeader = no 21
 
 -- the clauses that are named, 0 where there is no header
-unfoldable pub headerClauses : HeaderAt → ℕ
-headerClauses (Named atoms clauses next) = clauses
-headerClauses NoHeader = 0
+unfoldable pub header_clauses : HeaderAt → ℕ
+header_clauses (Named atoms clauses next) = clauses
+header_clauses NoHeader = 0

@@ -1,8 +1,8 @@
 // The clause lines of a text, into arrays of words.
 ghost use Rattle.std.specs.Prelude.{◌≡◌, List, ℕ, ◌+◌, ◌≤◌, drop};
-ghost use Rattle.definitions.specs.Dimacs.{front, minusAt, literalAt, closeAt, clauseLineAt, clausesAt};
+ghost use Rattle.definitions.specs.Dimacs.{front, minus_at, literal_at, close_at, clause_line_at, clauses_at};
 ghost use Rattle.encoding.specs.Signs.{word_of};
-ghost use Rattle.cnf_reader.specs.Lines.{literalFound, literalSize, CnfLineRead, lineEnd, ClausesRead};
+ghost use Rattle.cnf_reader.specs.Lines.{literal_found, literal_size, CnfLineRead, line_end, ClausesRead};
 
 use crate::parts::{Behind, DecimalAt};
 use crate::{STARTS, WORDS, parts};
@@ -37,7 +37,7 @@ const CLAUSE_LITERALS: usize = 8;
 
 // A minus, or none.
 fn sign_at(text: &[u8], at: usize) -> Sign
-    ensures { front result.negative (drop result.next text.now) ≡ minusAt (drop at text.now) }
+    ensures { front result.negative (drop result.next text.now) ≡ minus_at (drop at text.now) }
 {
     if text.len() <= at {
         return Sign {
@@ -59,8 +59,8 @@ fn sign_at(text: &[u8], at: usize) -> Sign
 
 // A literal in range, and the blank behind it.
 fn literal_at(text: &[u8], at: usize, atoms: u16) -> LiteralAt
-    ensures reads { literalFound text.now result ≡ literalAt atoms (drop at text.now) }
-    ensures small { literalSize result ≤ 999 }
+    ensures reads { literal_found text.now result ≡ literal_at atoms (drop at text.now) }
+    ensures small { literal_size result ≤ 999 }
 {
     let sign = sign_at(text, at);
     match parts::number_at(text, sign.next, 1, atoms, b' ') {
@@ -86,8 +86,8 @@ fn word(negative: bool, size: u16) -> u16
 
 // The closing 0 and LF of a line whose words end here.
 fn close_at(text: &[u8], at: usize, end: usize) -> LineAt
-    ensures reads { (words : List ℕ) → CnfLineRead text.now (closeAt (drop at text.now)) end words result words }
-    ensures room { lineEnd result ≤ end }
+    ensures reads { (words : List ℕ) → CnfLineRead text.now (close_at (drop at text.now)) end words result words }
+    ensures room { line_end result ≤ end }
 {
     match parts::skip_all(text, at, b"0\n") {
         Behind::At(next) => LineAt::Line { end, next },
@@ -104,8 +104,8 @@ fn read_line(
     used: usize,
 ) -> LineAt
     requires { used + 8 ≤ 4608 }
-    ensures reads { CnfLineRead text.now (clauseLineAt atoms 8 (drop from text.now)) used literals.old result literals.new }
-    ensures room { lineEnd result ≤ used + 8 }
+    ensures reads { CnfLineRead text.now (clause_line_at atoms 8 (drop from text.now)) used literals.old result literals.new }
+    ensures room { line_end result ≤ used + 8 }
 {
     let mut at = from;
     let mut end = used;
@@ -143,7 +143,7 @@ pub fn read_clauses(
     literals: &mut [u16; WORDS],
 ) -> bool
     requires { clauses ≤ 576 }
-    ensures { ClausesRead (clausesAt atoms clauses (drop from text.now)) 0 0 starts.old literals.old result starts.new literals.new }
+    ensures { ClausesRead (clauses_at atoms clauses (drop from text.now)) 0 0 starts.old literals.old result starts.new literals.new }
 {
     let mut at = from;
     let mut used: usize = 0;

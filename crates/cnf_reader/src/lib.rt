@@ -3,8 +3,8 @@ mod parts; // parts.rt: bytes, decimals and the header
 mod clause_lines; // clause_lines.rt: literals and clause lines
 
 ghost use Rattle.std.specs.Prelude.{◌≡◌};
-ghost use Rattle.definitions.specs.Dimacs.{readCnf};
-ghost use Rattle.cnf_reader.specs.CnfArrays.{cnfRead, noClauses};
+ghost use Rattle.definitions.specs.Dimacs.{read_cnf};
+ghost use Rattle.cnf_reader.specs.CnfArrays.{cnf_read, no_clauses};
 
 use parts::HeaderAt;
 
@@ -31,7 +31,7 @@ pub struct CnfRead {
 
 // The refusal by this question.
 fn refused(question: u8) -> CnfRead
-    ensures { result ≡ noClauses question }
+    ensures { result ≡ no_clauses question }
 {
     CnfRead {
         answer: CnfAnswer::Refused(question),
@@ -42,7 +42,7 @@ fn refused(question: u8) -> CnfRead
 
 // Reads a text: the first question that is answered no, 21 for the header and 22 for what follows, or the clauses.
 pub fn read_cnf(text: &[u8]) -> CnfRead
-    ensures { result ≡ cnfRead (readCnf text.now) }
+    ensures { result ≡ cnf_read (read_cnf text.now) }
 {
     let HeaderAt::Named {
         atoms,

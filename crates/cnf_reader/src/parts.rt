@@ -1,7 +1,7 @@
 // What stands at a place of a text: bytes, decimals and the header. Behind the end of the text nothing stands.
 ghost use Rattle.std.specs.Prelude.{◌≡◌, ℕ, ◌+◌, ◌*◌, ◌≤◌, drop};
-ghost use Rattle.definitions.specs.Dimacs.{front, expect, expects, moreDigits, decimalAt, header_at, starts_with};
-ghost use Rattle.cnf_reader.specs.Parts.{place_of, decimalOf, decimalSize, number_at, headerOf, headerClauses};
+ghost use Rattle.definitions.specs.Dimacs.{front, expect, expects, more_digits, decimal_at, header_at, starts_with};
+ghost use Rattle.cnf_reader.specs.Parts.{place_of, decimal_of, decimal_size, number_at, header_of, header_clauses};
 
 // The place behind what was to be skipped.
 #[derive(Drop)]
@@ -86,7 +86,7 @@ pub fn skip_all(text: &[u8], from: usize, bytes: &[u8]) -> Behind
 // With the digit that stands here, if one does.
 fn with_digit(text: &[u8], size: u16, at: usize) -> Digits
     requires { size ≤ 99 }
-    ensures { (front result.size (drop result.next text.now) ≡ moreDigits 1 size (drop at text.now)) × (result.size ≤ size * 10 + 9) }
+    ensures { (front result.size (drop result.next text.now) ≡ more_digits 1 size (drop at text.now)) × (result.size ≤ size * 10 + 9) }
 {
     if text.len() <= at {
         return Digits { size, next: at };
@@ -106,8 +106,8 @@ fn with_digit(text: &[u8], size: u16, at: usize) -> Digits
 
 // 0, or a number of at most three digits that doesn't begin with 0.
 fn decimal_at(text: &[u8], at: usize) -> DecimalAt
-    ensures reads { (q : ℕ) → decimalOf q text.now result ≡ decimalAt q (drop at text.now) }
-    ensures small { decimalSize result ≤ 999 }
+    ensures reads { (q : ℕ) → decimal_of q text.now result ≡ decimal_at q (drop at text.now) }
+    ensures small { decimal_size result ≤ 999 }
 {
     if text.len() <= at {
         return DecimalAt::NoDecimal;
@@ -136,8 +136,8 @@ fn decimal_at(text: &[u8], at: usize) -> DecimalAt
 
 // A decimal between these limits, and the byte that ends it.
 pub fn number_at(text: &[u8], at: usize, least: u16, most: u16, end: u8) -> DecimalAt
-    ensures reads { (q : ℕ) → decimalOf q text.now result ≡ number_at q least most end (drop at text.now) }
-    ensures small { (decimalSize result ≤ most) × (decimalSize result ≤ 999) }
+    ensures reads { (q : ℕ) → decimal_of q text.now result ≡ number_at q least most end (drop at text.now) }
+    ensures small { (decimal_size result ≤ most) × (decimal_size result ≤ 999) }
 {
     match decimal_at(text, at) {
         DecimalAt::Decimal { size, next } => {
@@ -158,8 +158,8 @@ pub fn number_at(text: &[u8], at: usize, least: u16, most: u16, end: u8) -> Deci
 
 // The line that names how many atoms and clauses there are.
 pub fn header_at(text: &[u8]) -> HeaderAt
-    ensures reads { headerOf text.now result ≡ header_at text.now }
-    ensures small { headerClauses result ≤ 576 }
+    ensures reads { header_of text.now result ≡ header_at text.now }
+    ensures small { header_clauses result ≤ 576 }
 {
     let Behind::At(first) = skip_all(text, 0, b"p cnf ") else {
         return HeaderAt::NoHeader;

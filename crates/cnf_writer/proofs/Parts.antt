@@ -8,17 +8,17 @@ use native.Mathlib.Omega.{arith}
 use lib.Dec.{eqb, ltb}
 use lib.ListN.{length, get_or, take, drop, set, length-append}
 use Rattle.definitions.specs.Lists.{joined, up_from}
-use Rattle.definitions.specs.Listing.{decimals, signedDecimals}
+use Rattle.definitions.specs.Listing.{decimals, signed_decimals}
 use Rattle.definitions.specs.Text.{bytes}
-use Rattle.definitions.specs.Dimacs.{headerLine, literalText}
+use Rattle.definitions.specs.Dimacs.{header_line, literal_text}
 use Rattle.theory.specs.Tests.{by-test}
 use Rattle.column.specs.Places.{sign, PutLast}
 use Rattle.column.specs.Widths.{decimals-last, decimals-more, decimals-exact, signed_parts}
 use Rattle.encoding.specs.ArrayLaws.{part-cons, part-nil}
-use Rattle.units.specs.Units.{clauseAt}
+use Rattle.units.specs.Units.{clause_at}
 use Rattle.machine.specs.declared.Run.{Run}
 use Rattle.listing.specs.Puts.{Put, Parts}
-use Rattle.cnf_writer.specs.CnfBytes.{wordText, lineText, cnfBytes}
+use Rattle.cnf_writer.specs.CnfBytes.{word_text, line_text, cnf_bytes}
 
 -- ── numbers ──
 
@@ -45,7 +45,7 @@ module _ (n : ℕ) where
       let none : at + left ≡ at = omega (arith, put.count, ap length same) in
       record { place = ap (λ (w : ℕ). at + w) e; stored = rw (none, same) at put.stored }
 
-pub number-first : (negative : Bool) (size : ℕ) → Parts (signedDecimals 3 (record { negative = negative; size = size })) (sign negative) (decimals 3 size)
+pub number-first : (negative : Bool) (size : ℕ) → Parts (signed_decimals 3 (record { negative = negative; size = size })) (sign negative) (decimals 3 size)
 number-first negative size = record { whole = signed_parts 3 (record { negative = negative; size = size }) }
 
 -- ── the header ──
@@ -59,33 +59,33 @@ name-put room at =
     record { place = refl; stored = rw (five, add-one, add-two, add-three, add-four) }
 
 pub header-first : (atoms clauses : ℕ)
-    → Parts (headerLine atoms clauses) (112 ∷ 32 ∷ 99 ∷ 110 ∷ 102 ∷ 32 ∷ []) (decimals 3 atoms ++ (32 ∷ decimals 3 clauses ++ (10 ∷ [])))
-unfolding headerLine bytes
+    → Parts (header_line atoms clauses) (112 ∷ 32 ∷ 99 ∷ 110 ∷ 102 ∷ 32 ∷ []) (decimals 3 atoms ++ (32 ∷ decimals 3 clauses ++ (10 ∷ [])))
+unfolding header_line bytes
 header-first atoms clauses = record { whole = refl }
 
 -- ── clauses ──
 
-pub literal-text-first : (word : ℕ) → Parts (wordText word) (signedDecimals 3 (record { negative = eqb (word % 2) 1; size = word / 2 + 1 })) (32 ∷ [])
-unfolding wordText literalText
+pub literal-text-first : (word : ℕ) → Parts (word_text word) (signed_decimals 3 (record { negative = eqb (word % 2) 1; size = word / 2 + 1 })) (32 ∷ [])
+unfolding word_text literal_text
 literal-text-first word = record { whole = refl }
 
 -- the words of a clause from the i-th place on
 module _ (words : List ℕ) (end i : ℕ) where
   pub line-words-first : i < end → end ≤ length words
-      → Parts (joined wordText (take (end - i) (drop i words))) (wordText (get_or words i 0)) (joined wordText (take (end - (i + 1)) (drop (i + 1) words)))
+      → Parts (joined word_text (take (end - i) (drop i words))) (word_text (get_or words i 0)) (joined word_text (take (end - (i + 1)) (drop (i + 1) words)))
   unfolding joined
   line-words-first h fits = record { whole = rw (part-cons words end i h fits) }
 
-  pub line-words-none : end ≤ i → joined wordText (take (end - i) (drop i words)) ≡ []
+  pub line-words-none : end ≤ i → joined word_text (take (end - i) (drop i words)) ≡ []
   unfolding joined
   line-words-none h = rw (part-nil words end i h)
 
 pub line_first : (starts literals : List ℕ) (c : ℕ)
-    → Parts (lineText starts literals c) (joined wordText (take (get_or starts (c + 1) 0 - get_or starts c 0) (drop (get_or starts c 0) literals))) (48 ∷ 10 ∷ [])
-unfolding lineText clauseAt
+    → Parts (line_text starts literals c) (joined word_text (take (get_or starts (c + 1) 0 - get_or starts c 0) (drop (get_or starts c 0) literals))) (48 ∷ 10 ∷ [])
+unfolding line_text clause_at
 line_first starts literals c = record { whole = refl }
 
 pub cnf-first : (run : Run) (starts literals : List ℕ)
-    → Parts (cnfBytes run starts literals) (headerLine run.atoms run.clauses) (joined (lineText starts literals) (up_from 0 run.clauses))
-unfolding cnfBytes
+    → Parts (cnf_bytes run starts literals) (header_line run.atoms run.clauses) (joined (line_text starts literals) (up_from 0 run.clauses))
+unfolding cnf_bytes
 cnf-first run starts literals = record { whole = refl }

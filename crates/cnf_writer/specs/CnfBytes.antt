@@ -1,20 +1,20 @@
 -- The text of the clauses from the arrays of the search: a literal by its word, a clause by its words. Assumes nothing.
 use Rattle.std.specs.Prelude.{ℕ, ◌+◌, ◌/◌, ◌%◌, ◌≤◌, List, [], ◌∷◌, ◌++◌, eqb, length, get_or}
 use Rattle.definitions.specs.Lists.{joined, up_from}
-use Rattle.definitions.specs.Dimacs.{headerLine, literalText}
-use Rattle.units.specs.Units.{clauseAt}
+use Rattle.definitions.specs.Dimacs.{header_line, literal_text}
+use Rattle.units.specs.Units.{clause_at}
 use Rattle.machine.specs.declared.Run.{Run}
 
 -- a literal by its word: its atom's position from 0, doubled, and 1 more where it is negated
-unfoldable pub wordText : ℕ → List ℕ
-wordText w = literalText (record { negative = eqb (w % 2) 1; size = w / 2 + 1 })
+unfoldable pub word_text : ℕ → List ℕ
+word_text w = literal_text (record { negative = eqb (w % 2) 1; size = w / 2 + 1 })
 
 -- the line of a clause
-unfoldable pub lineText : List ℕ → List ℕ → ℕ → List ℕ
-lineText starts literals c = joined wordText (clauseAt starts literals c) ++ (48 ∷ 10 ∷ [])
+unfoldable pub line_text : List ℕ → List ℕ → ℕ → List ℕ
+line_text starts literals c = joined word_text (clause_at starts literals c) ++ (48 ∷ 10 ∷ [])
 
-unfoldable pub cnfBytes : Run → List ℕ → List ℕ → List ℕ
-cnfBytes run starts literals = headerLine run.atoms run.clauses ++ joined (lineText starts literals) (up_from 0 run.clauses)
+unfoldable pub cnf_bytes : Run → List ℕ → List ℕ → List ℕ
+cnf_bytes run starts literals = header_line run.atoms run.clauses ++ joined (line_text starts literals) (up_from 0 run.clauses)
 
 -- what writing needs of the arrays: the clauses lie in theirs
 pub record Exportable (run : Run) (starts literals : List ℕ) : Type 0 where

@@ -2,11 +2,11 @@
 // Each function puts its bytes from a place on and hands back the place behind them.
 ghost use Rattle.std.specs.Prelude.{◌+◌, ◌-◌, ◌≤◌, ◌<◌, ◌≡◌, [], ◌∷◌, length, get_or, take, drop};
 ghost use Rattle.definitions.specs.Lists.{joined, up_from};
-ghost use Rattle.definitions.specs.Listing.{decimals, signedDecimals};
-ghost use Rattle.definitions.specs.Dimacs.{headerLine};
+ghost use Rattle.definitions.specs.Listing.{decimals, signed_decimals};
+ghost use Rattle.definitions.specs.Dimacs.{header_line};
 ghost use Rattle.column.specs.Places.{sign};
 ghost use Rattle.listing.specs.Puts.{Put};
-ghost use Rattle.cnf_writer.specs.CnfBytes.{wordText, lineText, cnfBytes, Exportable};
+ghost use Rattle.cnf_writer.specs.CnfBytes.{word_text, line_text, cnf_bytes, Exportable};
 
 use encoding::{LITERALS, STARTS};
 use machine::Run;
@@ -70,8 +70,8 @@ fn put_sign(room: &mut [u8], at: usize, negative: bool) -> usize
 
 // A signed number.
 fn put_number(room: &mut [u8], at: usize, negative: bool, size: u64) -> usize
-    requires { at + length (signedDecimals 3 (record { negative = negative; size = size })) ≤ length room.old }
-    ensures { Put room.old at (signedDecimals 3 (record { negative = negative; size = size })) result room.new }
+    requires { at + length (signed_decimals 3 (record { negative = negative; size = size })) ≤ length room.old }
+    ensures { Put room.old at (signed_decimals 3 (record { negative = negative; size = size })) result room.new }
 {
     let behind = put_sign(room, at, negative);
     put_size(room, behind, size)
@@ -79,8 +79,8 @@ fn put_number(room: &mut [u8], at: usize, negative: bool, size: u64) -> usize
 
 // The header.
 fn put_header(room: &mut [u8], at: usize, atoms: u64, clauses: u64) -> usize
-    requires { at + length (headerLine atoms clauses) ≤ length room.old }
-    ensures { Put room.old at (headerLine atoms clauses) result room.new }
+    requires { at + length (header_line atoms clauses) ≤ length room.old }
+    ensures { Put room.old at (header_line atoms clauses) result room.new }
 {
     let one = put_name(room, at);
     let two = put_size(room, one, atoms);
@@ -91,8 +91,8 @@ fn put_header(room: &mut [u8], at: usize, atoms: u64, clauses: u64) -> usize
 
 // A literal by its word, and a blank.
 fn put_literal(room: &mut [u8], at: usize, word: u16) -> usize
-    requires { at + length (wordText word) ≤ length room.old }
-    ensures { Put room.old at (wordText word) result room.new }
+    requires { at + length (word_text word) ≤ length room.old }
+    ensures { Put room.old at (word_text word) result room.new }
 {
     let size = (word / 2 + 1) as u64;
     let behind = put_number(room, at, word % 2 == 1, size);
@@ -107,8 +107,8 @@ fn put_literals(
     from: usize,
     end: usize,
 ) -> usize
-    requires { (end ≤ length literals.now) × (at + length (joined wordText (take (end - from) (drop from literals.now))) ≤ length room.old) }
-    ensures { Put room.old at (joined wordText (take (end - from) (drop from literals.now))) result room.new }
+    requires { (end ≤ length literals.now) × (at + length (joined word_text (take (end - from) (drop from literals.now))) ≤ length room.old) }
+    ensures { Put room.old at (joined word_text (take (end - from) (drop from literals.now))) result room.new }
 {
     let words: &[u16] = literals; // the proof knows a slice's length
     let mut here = at;
@@ -130,8 +130,8 @@ fn put_clause(
     c: usize,
 ) -> usize
     requires { (c < 577) × (get_or starts.now (c + 1) 0 ≤ length literals.now)
-        × (at + length (lineText starts.now literals.now c) ≤ length room.old) }
-    ensures { Put room.old at (lineText starts.now literals.now c) result room.new }
+        × (at + length (line_text starts.now literals.now c) ≤ length room.old) }
+    ensures { Put room.old at (line_text starts.now literals.now c) result room.new }
 {
     let places: &[u16] = starts; // the proof knows the range of a slice's elements
     let next = c + 1;
@@ -151,8 +151,8 @@ fn put_clauses(
     literals: &[u16; LITERALS],
 ) -> usize
     requires { Exportable run starts.now literals.now
-        × (at + length (joined (lineText starts.now literals.now) (up_from 0 run.clauses)) ≤ length room.old) }
-    ensures { Put room.old at (joined (lineText starts.now literals.now) (up_from 0 run.clauses)) result room.new }
+        × (at + length (joined (line_text starts.now literals.now) (up_from 0 run.clauses)) ≤ length room.old) }
+    ensures { Put room.old at (joined (line_text starts.now literals.now) (up_from 0 run.clauses)) result room.new }
 {
     let mut here = at;
     let mut c: usize = 0;
@@ -170,8 +170,8 @@ pub fn put_cnf(
     starts: &[u16; STARTS],
     literals: &[u16; LITERALS],
 ) -> usize
-    requires { Exportable run starts.now literals.now × (length (cnfBytes run starts.now literals.now) ≤ length room.old) }
-    ensures { Put room.old 0 (cnfBytes run starts.now literals.now) result room.new }
+    requires { Exportable run starts.now literals.now × (length (cnf_bytes run starts.now literals.now) ≤ length room.old) }
+    ensures { Put room.old 0 (cnf_bytes run starts.now literals.now) result room.new }
 {
     let behind = put_header(room, 0, run.atoms as u64, run.clauses as u64);
     put_clauses(room, behind, run, starts, literals)

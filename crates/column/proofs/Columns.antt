@@ -6,7 +6,7 @@ use mathlib.Core.List.{List, [], ◌∷◌, ◌++◌, append_assoc}
 use native.Mathlib.Omega.{arith}
 use lib.ListN.{length, set, replicate, length-append, length-replicate, replicate-append-replicate}
 use lib.Seq.{sets}
-use Rattle.definitions.specs.Listing.{Field, decimals, signedDecimals, rightJustified, fieldBytes}
+use Rattle.definitions.specs.Listing.{Field, decimals, signed_decimals, right_justified, field_bytes}
 use Rattle.column.specs.Sets.{sets-before}
 use Rattle.column.specs.Places.{sign, PutLast}
 use Rattle.column.specs.Widths.{decimals-last, decimals-more, signed_parts}
@@ -58,12 +58,12 @@ module _ (room : List ℕ) (at : ℕ) where
 
 module _ (f : Field) {room : List ℕ} {at left : ℕ} {digits : List ℕ} (first : PutLast room at f.width (decimals f.width f.number.size) left digits) where
   -- a number that fits leaves a place for its sign
-  pub sign_fits : length (signedDecimals f.width f.number) ≤ f.width → length (sign f.number.negative) ≤ left
+  pub sign_fits : length (signed_decimals f.width f.number) ≤ f.width → length (sign f.number.negative) ≤ left
   sign_fits h = omega (arith, first.count, simp length-append at (ap length (signed_parts f.width f.number)))
 
   -- digits, sign and blanks, put from the right, are the bytes of the field
-  pub field_put : {blanks : ℕ} {signed : List ℕ} → PutLast digits at left (sign f.number.negative) blanks signed → sets signed at (replicate blanks 32) ≡ sets room at (fieldBytes f)
-  unfolding fieldBytes rightJustified
+  pub field_put : {blanks : ℕ} {signed : List ℕ} → PutLast digits at left (sign f.number.negative) blanks signed → sets signed at (replicate blanks 32) ≡ sets room at (field_bytes f)
+  unfolding field_bytes right_justified
   field_put {blanks} second =
       let number : List ℕ = sign f.number.negative ++ decimals f.width f.number.size in
       let n : length (replicate {A = ℕ} blanks 32 ++ sign f.number.negative) ≡ left = rw (length-append, length-replicate) second.count in

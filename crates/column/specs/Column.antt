@@ -5,10 +5,10 @@ use Rattle.definitions.specs.Sheet.{number, nothing, fault}
 use Rattle.column.specs.declared.ColumnRead.{ColumnRead}
 use Rattle.column.specs.declared.ColumnRead.TheVariants.{Number, Nothing, Fault}
 
-unfoldable pub columnOf : ColumnRead → sheet.Column
-columnOf (Number negative size) = number (record { negative = negative; size = size })
-columnOf Nothing = nothing
-columnOf Fault = fault
+unfoldable pub column_of : ColumnRead → sheet.Column
+column_of (Number negative size) = number (record { negative = negative; size = size })
+column_of Nothing = nothing
+column_of Fault = fault
 
 -- the size of the number, 0 where there is none
 unfoldable pub size_of : ColumnRead → ℕ

@@ -15,14 +15,14 @@ read_on (Digits negative size) bytes = digits negative size bytes
 read_on Failed bytes = fault
 
 -- the number that the digits up to here make
-unfoldable pub sizeBefore : Scan → ℕ
-sizeBefore Blanks = 0
-sizeBefore Minus = 0
-sizeBefore Zero = 0
-sizeBefore (Digits negative size) = size
-sizeBefore Failed = 0
+unfoldable pub size_before : Scan → ℕ
+size_before Blanks = 0
+size_before Minus = 0
+size_before Zero = 0
+size_before (Digits negative size) = size
+size_before Failed = 0
 
 -- whatever follows, the scan reads it so; and its number has at most one digit more than the size
 pub record ReadAs (read : List ℕ → sheet.Column) (size : ℕ) (scan : Scan) : Type 0 where
   pub same : (rest : List ℕ) → read_on scan rest ≡ read rest
-  pub small : sizeBefore scan ≤ size * 10 + 9
+  pub small : size_before scan ≤ size * 10 + 9

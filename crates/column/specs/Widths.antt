@@ -4,7 +4,7 @@ use Rattle.std.proofs.lemmas.Bool.{false≢true}
 use Rattle.std.proofs.Common.{pow-suc, arith, length-append, lt-ltb, le-ltb, ltb-true, ltb-false}
 use Rattle.std.proofs.lemmas.List.{length-replicate}
 use Rattle.definitions.specs.Sheet.{Number, plus}
-use Rattle.definitions.specs.Listing.{Field, decimals, signedDecimals, rightJustified, fieldBytes, narrow, wide}
+use Rattle.definitions.specs.Listing.{Field, decimals, signed_decimals, right_justified, field_bytes, narrow, wide}
 use Rattle.column.specs.Places.{sign}
 
 module _ (places n : ℕ) where
@@ -55,8 +55,8 @@ decimals-exact (suc places) n =
     (λ more. rw (decimals-more places n more, length-append, one_more, decimals-more own n more, decimals-exact places (n / 10)))
 
 -- a sign, and digits
-pub signed_parts : (places : ℕ) (n : Number) → signedDecimals places n ≡ sign n.negative ++ decimals places n.size
-unfolding signedDecimals sign
+pub signed_parts : (places : ℕ) (n : Number) → signed_decimals places n ≡ sign n.negative ++ decimals places n.size
+unfolding signed_decimals sign
 signed_parts places n = parts n.negative
   where
     parts : (b : Bool) → elim b [ true ↦ 45 ∷ decimals places n.size | false ↦ decimals places n.size ] ≡ sign b ++ decimals places n.size
@@ -64,7 +64,7 @@ signed_parts places n = parts n.negative
     parts false = refl
 
 -- a number fits that has a digit less where it has a sign
-pub signed_fit : (k : ℕ) (n : Number) → (n.negative ≡ true → n.size < 10 ^ suc k) → length (signedDecimals (suc (suc k)) n) ≤ suc (suc k)
+pub signed_fit : (k : ℕ) (n : Number) → (n.negative ≡ true → n.size < 10 ^ suc k) → length (signed_decimals (suc (suc k)) n) ≤ suc (suc k)
 unfolding sign
 signed_fit k n h = rw (signed_parts (suc (suc k)) n, length-append) (fit n.negative h)
   where
@@ -73,14 +73,14 @@ signed_fit k n h = rw (signed_parts (suc (suc k)) n, length-append) (fit n.negat
     fit false below = omega (arith, decimals-fit (suc (suc k)) n.size)
 
 -- a number that fits takes its column
-pub field-length : (f : Field) → length (signedDecimals f.width f.number) ≤ f.width → length (fieldBytes f) ≡ f.width
-unfolding fieldBytes rightJustified
+pub field-length : (f : Field) → length (signed_decimals f.width f.number) ≤ f.width → length (field_bytes f) ≡ f.width
+unfolding field_bytes right_justified
 field-length f h = rw (length-append, length-replicate) (omega arith)
 
-pub narrow-length : (n : Number) → (n.negative ≡ true → n.size < 1000) → length (fieldBytes (narrow n)) ≡ 4
+pub narrow-length : (n : Number) → (n.negative ≡ true → n.size < 1000) → length (field_bytes (narrow n)) ≡ 4
 unfolding narrow
 narrow-length n h = field-length (narrow n) (signed_fit 2 n h)
 
-pub wide-length : (n : ℕ) → length (fieldBytes (wide n)) ≡ 12
+pub wide-length : (n : ℕ) → length (field_bytes (wide n)) ≡ 12
 unfolding wide plus
 wide-length n = field-length (wide n) (signed_fit 10 (plus n) (λ e. absurd (false≢true e)))

@@ -2,9 +2,9 @@
 ghost use Rattle.std.specs.Prelude.{◌+◌, ◌<◌, ◌≤◌, ◌≡◌, true, [], ◌∷◌, length, take, drop, replicate};
 ghost use Rattle.std.proofs.lemmas.List.Edits.{sets};
 ghost use Rattle.definitions.specs.Sheet.{digits, natural, decimal};
-ghost use Rattle.definitions.specs.Listing.{decimals, signedDecimals, fieldBytes, narrow, wide};
-ghost use Rattle.column.specs.Column.{columnOf, size_of};
-ghost use Rattle.column.specs.Scan.{read_on, sizeBefore, ReadAs};
+ghost use Rattle.definitions.specs.Listing.{decimals, signed_decimals, field_bytes, narrow, wide};
+ghost use Rattle.column.specs.Column.{column_of, size_of};
+ghost use Rattle.column.specs.Scan.{read_on, size_before, ReadAs};
 ghost use Rattle.column.specs.Places.{sign, PutLast};
 
 // What stands in a column: a number, its sign apart from its size; nothing, where it is blank; or a fault.
@@ -70,8 +70,8 @@ fn first(b: u8) -> Scan
 
 // The scan after one byte more.
 fn step(scan: Scan, b: u8) -> Scan
-    requires { sizeBefore scan ≤ 999 }
-    ensures { ReadAs (λ rest. read_on scan (b ∷ rest)) (sizeBefore scan) result }
+    requires { size_before scan ≤ 999 }
+    ensures { ReadAs (λ rest. read_on scan (b ∷ rest)) (size_before scan) result }
 {
     match scan {
         Scan::Blanks => first(b),
@@ -84,7 +84,7 @@ fn step(scan: Scan, b: u8) -> Scan
 
 // The column, once all of its bytes are scanned.
 fn finish(scan: Scan) -> ColumnRead
-    ensures { (columnOf result ≡ read_on scan []) × (size_of result ≤ sizeBefore scan) }
+    ensures { (column_of result ≡ read_on scan []) × (size_of result ≤ size_before scan) }
 {
     match scan {
         Scan::Digits { negative, size } => ColumnRead::Number { negative, size },
@@ -101,7 +101,7 @@ fn finish(scan: Scan) -> ColumnRead
 // What stands in the four bytes from `at` on.
 pub fn read_column(s: &[u8], at: usize) -> ColumnRead
     requires { at + 4 ≤ length s.now }
-    ensures reads { columnOf result ≡ decimal (take 4 (drop at s.now)) }
+    ensures reads { column_of result ≡ decimal (take 4 (drop at s.now)) }
     ensures small { size_of result ≤ 9999 }
 {
     let one = first(s[at]);
@@ -159,8 +159,8 @@ fn put_blanks(room: &mut [u8], at: usize, count: usize)
 
 // One column of any width, for a number that fits: from the right, its digits, its sign and blanks.
 fn put_column(room: &mut [u8], at: usize, width: usize, negative: bool, size: u64)
-    requires { (at + width ≤ length room.old) × (length (signedDecimals width (record { negative = negative; size = size })) ≤ width) }
-    ensures { room.new ≡ sets room.old at (fieldBytes (record { width = width; number = record { negative = negative; size = size } })) }
+    requires { (at + width ≤ length room.old) × (length (signed_decimals width (record { negative = negative; size = size })) ≤ width) }
+    ensures { room.new ≡ sets room.old at (field_bytes (record { width = width; number = record { negative = negative; size = size } })) }
 {
     let signed = put_digits(room, at, width, size);
     let blank = put_sign(room, at, signed, negative);
@@ -170,7 +170,7 @@ fn put_column(room: &mut [u8], at: usize, width: usize, negative: bool, size: u6
 // One column of 4 bytes. A sign takes a place from the digits; of a longer number the last digits stand.
 pub fn put_narrow(room: &mut [u8], at: usize, negative: bool, size: u16)
     requires { (at + 4 ≤ length room.old) × (negative ≡ true → size < 1000) }
-    ensures { room.new ≡ sets room.old at (fieldBytes (narrow (record { negative = negative; size = size }))) }
+    ensures { room.new ≡ sets room.old at (field_bytes (narrow (record { negative = negative; size = size }))) }
 {
     put_column(room, at, 4, negative, size as u64);
 }
@@ -178,7 +178,7 @@ pub fn put_narrow(room: &mut [u8], at: usize, negative: bool, size: u16)
 // One column of 12 bytes.
 pub fn put_wide(room: &mut [u8], at: usize, n: u64)
     requires { at + 12 ≤ length room.old }
-    ensures { room.new ≡ sets room.old at (fieldBytes (wide n)) }
+    ensures { room.new ≡ sets room.old at (field_bytes (wide n)) }
 {
     put_column(room, at, 12, false, n);
 }

@@ -19,18 +19,18 @@ other_length (x ∷ xs) (y ∷ ys) n = cc (other_length xs ys (λ e. n (ap suc e
 
 module _ (a b : List ℕ) where
   -- the bytes from one on
-  unfoldable pub sameFrom : ℕ → Bool
-  sameFrom i = same_args (drop i a) (drop i b)
+  unfoldable pub same_from : ℕ → Bool
+  same_from i = same_args (drop i a) (drop i b)
 
 module _ (a b : List ℕ) (i : ℕ) (in_a : i < length a) (in_b : i < length b) where
-  pub same_turn : get_or a i 0 ≡ get_or b i 0 → sameFrom a b (i + 1) ≡ sameFrom a b i
-  unfolding sameFrom same_args
+  pub same_turn : get_or a i 0 ≡ get_or b i 0 → same_from a b (i + 1) ≡ same_from a b i
+  unfolding same_from same_args
   same_turn e = rw (add-one i, drop-cons a i 0 in_a, drop-cons b i 0 in_b, eq-eqb (get_or a i 0) (get_or b i 0) e)
 
-  pub same_not : (get_or a i 0 ≡ get_or b i 0 → ⊥) → false ≡ sameFrom a b i
-  unfolding sameFrom same_args
+  pub same_not : (get_or a i 0 ≡ get_or b i 0 → ⊥) → false ≡ same_from a b i
+  unfolding same_from same_args
   same_not n = rw (drop-cons a i 0 in_a, drop-cons b i 0 in_b, ne_eqb (get_or a i 0) (get_or b i 0) n)
 
-pub same_end : (a b : List ℕ) (i : ℕ) → length a ≤ i → length b ≤ i → true ≡ sameFrom a b i
-unfolding sameFrom same_args
-same_end a b i endA endB = rw (drop_of_length-le a endA, drop_of_length-le b endB)
+pub same_end : (a b : List ℕ) (i : ℕ) → length a ≤ i → length b ≤ i → true ≡ same_from a b i
+unfolding same_from same_args
+same_end a b i end_a end_b = rw (drop_of_length-le a end_a, drop_of_length-le b end_b)

@@ -1,7 +1,7 @@
 // What the command is to do, by the words behind its name.
 ghost use Rattle.std.specs.Prelude.{◌≡◌, false, List, [], ◌∷◌, map, ℕ, length, take};
 ghost use Rattle.definitions.specs.Sheet.{natural};
-ghost use Rattle.definitions.specs.Command.{sameWord, in_range, numeral, printedBy, budgeted, order};
+ghost use Rattle.definitions.specs.Command.{same_word, in_range, numeral, printed_by, budgeted, order};
 
 use definitions::{Numeral, Order};
 
@@ -12,7 +12,7 @@ const LARGEST: u64 = 4294967295;
 
 // Whether two words are the same, byte for byte.
 fn same(a: &[u8], b: &[u8]) -> bool
-    ensures { result ≡ sameWord a.now b.now }
+    ensures { result ≡ same_word a.now b.now }
 {
     if a.len() != b.len() {
         return false;
@@ -68,7 +68,7 @@ fn number(word: &[u8]) -> Numeral
 
 // What is printed, by the words behind the budget.
 fn printed_by(budget: u32, words: &[&[u8]]) -> Order
-    ensures { result ≡ printedBy budget (map (λ x. x.now) words.now) }
+    ensures { result ≡ printed_by budget (map (λ x. x.now) words.now) }
 {
     if words.len() == 0 {
         return Order::Listing(budget);

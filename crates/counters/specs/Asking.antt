@@ -9,12 +9,12 @@ use Rattle.theory.specs.Tests.{true-and-false}
 use Rattle.bits.specs.Bits.{has, has-zero, has-high, has-lowest, none-lower, has-over, among}
 use Rattle.encoding.specs.CountLaws.{by_order}
 use Rattle.encoding.specs.Values.{Values}
-use Rattle.units.specs.Units.{clauseAt, maySet, actAt, actFrom}
+use Rattle.units.specs.Units.{clause_at, may_set, act_at, act_from}
 use Rattle.units.specs.declared.UnitAct.{UnitAct}
 use Rattle.units.specs.declared.UnitAct.TheVariants.{Nothing}
 use Rattle.counters.specs.Weights.{whole-is-once}
 use Rattle.counters.specs.ByNumber.{rests}
-use Rattle.counters.specs.Counters.{readWhole, numberAsks, countersOf, counters}
+use Rattle.counters.specs.Counters.{read_whole, number_asks, counters_of, counters}
 use Rattle.counters.specs.CounterLaws.{counters-kept}
 
 -- ── the next clause that asks ──
@@ -64,45 +64,45 @@ module _ (asking : List ℕ) (c i word : ℕ) (is : word ≡ get_or asking (i / 
 -- ── the numbers of the clauses ──
 
 module _ (values : Values) (clause : ℕ → List ℕ) (clauses : ℕ) {rows counts asking : List ℕ} (few : clauses ≤ 640)
-    (its : counters rows counts asking ≡ countersOf values clause clauses) where
+    (its : counters rows counts asking ≡ counters_of values clause clauses) where
   asks-by : (c : ℕ) → c < clauses → among asking c ≡ leb (get_or counts c 0) 1
-  unfolding numberAsks
+  unfolding number_asks
   asks-by c l = rw (lt-ltb c clauses l) at ((counters-kept values clause clauses few its).asks c (omega arith))
 
   -- a clause's number is what reading it whole gives, and that of one that asks is 0 or 1
-  pub its-number : (c : ℕ) → c < clauses → get_or counts c 0 ≡ readWhole values (clause c)
+  pub its-number : (c : ℕ) → c < clauses → get_or counts c 0 ≡ read_whole values (clause c)
   its-number c l = (counters-kept values clause clauses few its).count c l ∙ sym (whole-is-once values (clause c))
 
   pub asks-few : (c : ℕ) → c < clauses → among asking c ≡ true → get_or counts c 0 ≤ 1
   asks-few c l h = leb-true (get_or counts c 0) 1 (sym (asks-by c l) ∙ h)
 
-  asks-not : (c : ℕ) → c < clauses → among asking c ≡ false → 2 ≤ readWhole values (clause c)
+  asks-not : (c : ℕ) → c < clauses → among asking c ≡ false → 2 ≤ read_whole values (clause c)
   asks-not c l h = let many = leb-false (get_or counts c 0) 1 (sym (asks-by c l) ∙ h) in omega (arith, its-number c l)
 
 -- ── clauses that don't ask are passed over ──
 
 module _ (values : Values) (starts literals heads : List ℕ) (given goals : ℕ) where
   abbrev act : ℕ → UnitAct
-  act c = actAt values starts literals heads given goals c
+  act c = act_at values starts literals heads given goals c
 
   abbrev acts : ℕ → ℕ → UnitAct
-  acts c n = actFrom values starts literals heads given goals c n
+  acts c n = act_from values starts literals heads given goals c n
 
   skips : (c k n : ℕ) → ((i : ℕ) → c ≤ i → i < c + k → act i ≡ Nothing) → acts c (k + n) ≡ acts (c + k) n
-  unfolding actFrom
+  unfolding act_from
   skips c zero n h = let e : c + 0 ≡ c = omega arith in let d : 0 + n ≡ n = omega arith in rw (e, d)
   skips c (suc k) n h =
       let e : c + suc k ≡ suc c + k = omega arith in
       let d : suc k + n ≡ suc (k + n) = omega arith in
-      rw (d, e, h c (omega arith) (omega arith), actFrom) (skips (suc c) k n (λ i a b. h i (omega arith) (omega arith)))
+      rw (d, e, h c (omega arith) (omega arith), act_from) (skips (suc c) k n (λ i a b. h i (omega arith) (omega arith)))
 
   module _ (clauses : ℕ) {rows counts asking : List ℕ} (few : clauses ≤ 640)
-      (its : counters rows counts asking ≡ countersOf values (λ c. clauseAt starts literals c) clauses) where
+      (its : counters rows counts asking ≡ counters_of values (λ c. clause_at starts literals c) clauses) where
     silent : (c : ℕ) → c < clauses → among asking c ≡ false → act c ≡ Nothing
-    unfolding actAt
+    unfolding act_at
     silent c l n =
-        rests values (clauseAt starts literals c) (maySet values starts literals heads given goals c)
-        (asks-not values (λ c. clauseAt starts literals c) clauses few its c l n)
+        rests values (clause_at starts literals c) (may_set values starts literals heads given goals c)
+        (asks-not values (λ c. clause_at starts literals c) clauses few its c l n)
 
     to-next : (c r : ℕ) → c ≤ r → r ≤ clauses → Unasked asking c r → acts c (clauses - c) ≡ acts r (clauses - r)
     to-next c r a b h =
@@ -111,7 +111,7 @@ module _ (values : Values) (starts literals heads : List ℕ) (given goals : ℕ
         rw (e, skips c (r - c) (clauses - r) (λ i p q. silent i (omega arith) (h i p (omega arith))), d)
 
     none_left : (c : ℕ) → clauses ≤ c → acts c (clauses - c) ≡ Nothing
-    unfolding actFrom
+    unfolding act_from
     none_left c l = let e : clauses - c ≡ 0 = omega arith in rw e
 
     -- from the start, or behind a clause that does nothing, to the next that asks

@@ -10,12 +10,12 @@ use borrow.Author.Tests.{eqb-true, eqb-false, eq-eqb, ne_eqb, ltb-true, ltb-fals
 use Rattle.definitions.specs.Lists.{any}
 use Rattle.theory.specs.Tests.{by-test}
 use Rattle.bits.specs.Bits.{has, has-put, put-below, has-shift, one_shifted, among}
-use Rattle.encoding.specs.ArrayLaws.{getD-set-each, getD-rising, part-snoc, part-nil}
-use Rattle.encoding.specs.Lengths.{literalArray}
+use Rattle.encoding.specs.ArrayLaws.{get_d-set-each, get_d-rising, part-snoc, part-nil}
+use Rattle.encoding.specs.Lengths.{literal_array}
 use Rattle.encoding.specs.Values.{Values}
-use Rattle.units.specs.Units.{clauseAt, ClausesFit}
-use Rattle.counters.specs.Weights.{one-if, once, any_snoc, once-snoc, weighs}
-use Rattle.counters.specs.Counters.{numberAsks, countersOf, counters, row_at}
+use Rattle.units.specs.Units.{clause_at, ClausesFit}
+use Rattle.counters.specs.Weights.{one_if, once, any_snoc, once-snoc, weighs}
+use Rattle.counters.specs.Counters.{number_asks, counters_of, counters, row_at}
 use Rattle.counters.specs.CounterLaws.{kept-counters, counters-kept}
 use Rattle.counters.specs.PlacesKept.{PlacesKept}
 
@@ -39,7 +39,7 @@ module _ {f : ℕ → ℕ} {c n : ℕ} {seen rows₀ rows : List ℕ} (e : Enter
 
   -- a repeated word
   enter-again : has (c % 64) old ≡ true → Entering f c n (seen ++ (w ∷ [])) rows₀ rows
-  unfolding one-if
+  unfolding one_if
   enter-again h =
       let a : any (eqb w) seen ≡ true = sym seen-bit ∙ h in
       record {
@@ -50,7 +50,7 @@ module _ {f : ℕ → ℕ} {c n : ℕ} {seen rows₀ rows : List ℕ} (e : Enter
             (λ q. sym (any_snoc x seen w ∙ rw q (or-false (any (eqb x) seen))));
         there = e.there;
         sum =
-            let t : once f (seen ++ (w ∷ [])) ≡ once f seen + 0 = rw (a, one-if) at (once-snoc f seen w) in
+            let t : once f (seen ++ (w ∷ [])) ≡ once f seen + 0 = rw (a, one_if) at (once-snoc f seen w) in
             let u = e.sum in
             omega arith;
       }
@@ -88,17 +88,17 @@ module _ {f : ℕ → ℕ} {c n : ℕ} {seen rows₀ rows : List ℕ} (e : Enter
         (λ q. rw (get_or-set_other rows at (10 * x + d / 64) new 0 (eqb-false (10 * x + d / 64) at q)))
 
     new-sum : n + f w ≡ once f (seen ++ (w ∷ []))
-    unfolding one-if
+    unfolding one_if
     new-sum =
         let a : any (eqb w) seen ≡ false = sym seen-bit ∙ free in
-        let t : once f (seen ++ (w ∷ [])) ≡ once f seen + f w = rw (a, one-if) at (once-snoc f seen w) in
+        let t : once f (seen ++ (w ∷ [])) ≡ once f seen + f w = rw (a, one_if) at (once-snoc f seen w) in
         let u = e.sum in
         omega arith
 
     enter-fresh : Entering f c (n + f w) (seen ++ (w ∷ [])) rows₀ (set rows at new)
     enter-fresh = record {
       size = length-set rows at new ∙ e.size;
-      below = λ i l. getD-set-each (λ (v : ℕ). v < 2 ^ 64) rows at new i (put-below (c % 64) 64 old free (omega arith) below) (e.below i l);
+      below = λ i l. get_d-set-each (λ (v : ℕ). v < 2 ^ 64) rows at new i (put-below (c % 64) 64 old free (omega arith) below) (e.below i l);
       here = new-here;
       there = λ x d l m k. new-there x d l m k ∙ e.there x d l m k;
       sum = new-sum;
@@ -120,15 +120,15 @@ module _ {f : ℕ → ℕ} {clause : ℕ → List ℕ} {c : ℕ} {rows counts as
 
   module _ {n : ℕ} {rows' : List ℕ} (e : Entering f c n (clause c) rows rows') where
     abbrev next : ℕ
-    next = word + one-if (numberAsks n) (2 ^ (c % 64))
+    next = word + one_if (number_asks n) (2 ^ (c % 64))
 
     next-below : next < 2 ^ 64
-    unfolding one-if
+    unfolding one_if
     next-below =
         let l = k.below.1 (c / 64) in
-        by-test (numberAsks n)
-        (λ b. rw (b, one-if) (put-below (c % 64) 64 word ask-free (omega arith) l))
-        (λ b. rw (b, one-if, add-zero word) l)
+        by-test (number_asks n)
+        (λ b. rw (b, one_if) (put-below (c % 64) 64 word ask-free (omega arith) l))
+        (λ b. rw (b, one_if, add-zero word) l)
 
     in-asking : c / 64 < length asking
     in-asking = let s = k.sizes.1 in omega arith
@@ -136,24 +136,24 @@ module _ {f : ℕ → ℕ} {clause : ℕ → List ℕ} {c : ℕ} {rows counts as
     in-counts : c < length counts
     in-counts = let s = k.sizes.0 in omega arith
 
-    ask-here : among (set asking (c / 64) next) c ≡ numberAsks n
-    unfolding among one-if
+    ask-here : among (set asking (c / 64) next) c ≡ number_asks n
+    unfolding among one_if
     ask-here =
         rw (get_or-set_same asking (c / 64) next 0 in-asking)
-        (by-test (numberAsks n)
-        (λ b. rw (b, one-if) (has-put (c % 64) (c % 64) word ask-free ∙ rw (eq-eqb (c % 64) (c % 64) refl) (or-true (has (c % 64) word))))
-        (λ b. rw (b, one-if, add-zero word) ask-free))
+        (by-test (number_asks n)
+        (λ b. rw (b, one_if) (has-put (c % 64) (c % 64) word ask-free ∙ rw (eq-eqb (c % 64) (c % 64) refl) (or-true (has (c % 64) word))))
+        (λ b. rw (b, one_if, add-zero word) ask-free))
 
     ask-there : (d : ℕ) → (d ≡ c → ⊥) → among (set asking (c / 64) next) d ≡ among asking d
-    unfolding among one-if
+    unfolding among one_if
     ask-there d far =
         by-test (eqb (d / 64) (c / 64))
         (λ q. let z = eqb-true (d / 64) (c / 64) q in
         let other : d % 64 ≡ c % 64 → ⊥ = λ y. far (omega arith) in
         rw (z, get_or-set_same asking (c / 64) next 0 in-asking)
-        (by-test (numberAsks n)
-        (λ b. rw (b, one-if) (has-put (c % 64) (d % 64) word ask-free ∙ rw (ne_eqb (d % 64) (c % 64) other) (or-false (has (d % 64) word))))
-        (λ b. rw (b, one-if, add-zero word))))
+        (by-test (number_asks n)
+        (λ b. rw (b, one_if) (has-put (c % 64) (d % 64) word ask-free ∙ rw (ne_eqb (d % 64) (c % 64) other) (or-false (has (d % 64) word))))
+        (λ b. rw (b, one_if, add-zero word))))
         (λ q. rw (get_or-set_other asking (c / 64) (d / 64) next 0 (eqb-false (d / 64) (c / 64) q)))
 
     before-too : (d : ℕ) → (d ≡ c → ⊥) → ltb d (c + 1) ≡ ltb d c
@@ -166,7 +166,7 @@ module _ {f : ℕ → ℕ} {clause : ℕ → List ℕ} {c : ℕ} {rows counts as
     kept-entered = record {
       few = omega arith;
       sizes = (length-set counts c n ∙ k.sizes.0, length-set asking (c / 64) next ∙ k.sizes.1, e.size ∙ k.sizes.2);
-      below = (λ i. e.below i (k.below.0 i), λ i. getD-set-each (λ (v : ℕ). v < 2 ^ 64) asking (c / 64) next i next-below (k.below.1 i));
+      below = (λ i. e.below i (k.below.0 i), λ i. get_d-set-each (λ (v : ℕ). v < 2 ^ 64) asking (c / 64) next i next-below (k.below.1 i));
       held = λ x d l m. by-test (eqb d c)
           (λ q. let z = eqb-true d c q in rw (z, lt-ltb c (c + 1) (omega arith)) (e.here x l))
           (λ q. let far = eqb-false d c q in rw (before-too d far) (e.there x d l m far ∙ k.held x d l m));
@@ -215,7 +215,7 @@ module _ {f : ℕ → ℕ} {c n : ℕ} {rows₀ rows : List ℕ} (ls : List ℕ)
 
 -- a clause is entered behind c others
 module _ (values : Values) (clause : ℕ → List ℕ) {c : ℕ} {rows counts asking : List ℕ} (few : c < 640)
-    (its : counters rows counts asking ≡ countersOf values clause c) where
+    (its : counters rows counts asking ≡ counters_of values clause c) where
   abbrev kept : PlacesKept (weighs values) clause c rows counts asking
   kept = counters-kept values clause c (omega arith) its
 
@@ -229,8 +229,8 @@ module _ (values : Values) (clause : ℕ → List ℕ) {c : ℕ} {rows counts as
         let r = put-below (c % 64) 64 a (rw is (ask-free kept few)) (omega arith) b in
         omega arith
 
-    pub entered-as : {n : ℕ} {rows' words : List ℕ} → low ≡ one-if (numberAsks n) ((1 * 2 ^ (c % 64)) % 2 ^ 64) → Entering (weighs values) c n words rows rows'
-        → clause c ≡ words → counters rows' (set counts c n) (set asking (c / 64) (a + low)) ≡ countersOf values clause (c + 1)
+    pub entered-as : {n : ℕ} {rows' words : List ℕ} → low ≡ one_if (number_asks n) ((1 * 2 ^ (c % 64)) % 2 ^ 64) → Entering (weighs values) c n words rows rows'
+        → clause c ≡ words → counters rows' (set counts c n) (set asking (c / 64) (a + low)) ≡ counters_of values clause (c + 1)
     entered-as q e same =
         kept-counters values clause (c + 1) (rw (q, is, one_shifted 64 (c % 64) (omega arith)) (kept-entered kept few (rw (← same) at e)))
 
@@ -238,15 +238,15 @@ module _ (values : Values) (clause : ℕ → List ℕ) {c : ℕ} {rows counts as
 
 module _ {starts literals heads : List ℕ} {given clauses : ℕ} (fit : ClausesFit starts literals heads given clauses) (c : ℕ) (l : c < clauses)
     {from end : ℕ} (is : from ≡ get_or starts c 0) (to : end ≡ get_or starts (c + 1) 0) where
-  pub clause-inside : (from ≤ end) × (end ≤ literalArray) × (c < 640) × ((i : ℕ) → i < end → get_or literals i 0 < 512)
+  pub clause-inside : (from ≤ end) × (end ≤ literal_array) × (c < 640) × ((i : ℕ) → i < end → get_or literals i 0 < 512)
   clause-inside =
       let a = fit.rising c l in
       let b = fit.inside (c + 1) (omega arith) in
       let m = fit.limit in
-      let up = getD-rising starts clauses fit.rising (c + 1) (omega arith) in
+      let up = get_d-rising starts clauses fit.rising (c + 1) (omega arith) in
       (omega arith, omega arith, omega arith, λ i k. fit.words i (omega arith))
 
 pub clause-part : (starts literals : List ℕ) (c : ℕ) {from end : ℕ} → from ≡ get_or starts c 0 → end ≡ get_or starts (c + 1) 0
-    → clauseAt starts literals c ≡ part literals from end
-unfolding clauseAt
+    → clause_at starts literals c ≡ part literals from end
+unfolding clause_at
 clause-part starts literals c is to = rw (is, to)

@@ -13,8 +13,8 @@ use Rattle.std.proofs.Math.Seq.{get_or-set_same, get_or-set_other}
 use borrow.Author.Tests.{eqb-true, eqb-false, eq-eqb, ne_eqb, ltb-true, ltb-false, lt-ltb, le-ltb, le-leb, lt-leb}
 use Rattle.theory.specs.Tests.{by-test, and_left, and_right}
 use Rattle.bits.specs.Bits.{has, has-zero, lowest, has-lowest, has-less, has-or, has-taken, has-put, put-below, one_shifted, among}
-use Rattle.counters.specs.Counters.{numberAsks, row_at}
-use Rattle.counters.specs.Weights.{one-if}
+use Rattle.counters.specs.Counters.{number_asks, row_at}
+use Rattle.counters.specs.Weights.{one_if}
 use Rattle.counters.specs.PlacesKept.{pick, Moved}
 
 -- ── what the passes ask for ──
@@ -34,13 +34,13 @@ RowFits x words up down rows counts asking =
 
 -- ── bit by bit ──
 
-pub low-yes : (n bit : ℕ) → n ≤ 1 → bit ≡ one-if (numberAsks n) bit
-unfolding one-if numberAsks
-low-yes n bit l = rw (le-leb n 1 l, one-if)
+pub low-yes : (n bit : ℕ) → n ≤ 1 → bit ≡ one_if (number_asks n) bit
+unfolding one_if number_asks
+low-yes n bit l = rw (le-leb n 1 l, one_if)
 
-pub low-not : (n bit : ℕ) → 1 < n → 0 ≡ one-if (numberAsks n) bit
-unfolding one-if numberAsks
-low-not n bit l = rw (lt-leb n 1 l, one-if)
+pub low-not : (n bit : ℕ) → 1 < n → 0 ≡ one_if (number_asks n) bit
+unfolding one_if number_asks
+low-not n bit l = rw (lt-leb n 1 l, one_if)
 
 -- the bits of `bits` that are no longer in m have been gone over
 pub record WordDone (k bits m low up down : ℕ) (counts₀ counts : List ℕ) : Type 0 where
@@ -48,15 +48,15 @@ pub record WordDone (k bits m low up down : ℕ) (counts₀ counts : List ℕ) :
   pub below : (m < 2 ^ 64) × (low < 2 ^ 64)
   pub inside : (j : ℕ) → has j m ≡ true → has j bits ≡ true
   pub moved : (c : ℕ) → c < 640
-      → get_or counts c 0 + one-if (in_word k bits c && not (in_word k m c)) down ≡ get_or counts₀ c 0 + one-if (in_word k bits c && not (in_word k m c)) up
-  pub lows : (j : ℕ) → j < 64 → has j low ≡ ((has j bits && not (has j m)) && numberAsks (get_or counts (64 * k + j) 0))
+      → get_or counts c 0 + one_if (in_word k bits c && not (in_word k m c)) down ≡ get_or counts₀ c 0 + one_if (in_word k bits c && not (in_word k m c)) up
+  pub lows : (j : ℕ) → j < 64 → has j low ≡ ((has j bits && not (has j m)) && number_asks (get_or counts (64 * k + j) 0))
 
 -- all of them have
 pub record WordMoved (k bits r up down : ℕ) (counts₀ counts : List ℕ) : Type 0 where
   pub size : length counts ≡ length counts₀
   pub below : r < 2 ^ 64
-  pub moved : (c : ℕ) → c < 640 → get_or counts c 0 + one-if (in_word k bits c) down ≡ get_or counts₀ c 0 + one-if (in_word k bits c) up
-  pub lows : (j : ℕ) → j < 64 → has j r ≡ (has j bits && numberAsks (get_or counts (64 * k + j) 0))
+  pub moved : (c : ℕ) → c < 640 → get_or counts c 0 + one_if (in_word k bits c) down ≡ get_or counts₀ c 0 + one_if (in_word k bits c) up
+  pub lows : (j : ℕ) → j < 64 → has j r ≡ (has j bits && number_asks (get_or counts (64 * k + j) 0))
 
 none_left : (a b : Bool) → ((a && b) && not (a && false)) ≡ (a && b)
 none_left true b = and-true b
@@ -64,12 +64,12 @@ none_left false b = refl
 
 module _ {k bits up down : ℕ} {counts₀ : List ℕ} where
   pub word-start : bits < 2 ^ 64 → WordDone k bits bits 0 up down counts₀ counts₀
-  unfolding one-if
+  unfolding one_if
   word-start l = record {
     size = refl;
     below = (l, pow_pos 64);
     inside = λ j h. h;
-    moved = λ c w. rw (and-not_self (in_word k bits c), one-if);
+    moved = λ c w. rw (and-not_self (in_word k bits c), one_if);
     lows = λ j w. rw (and-not_self (has j bits)) (has-zero j);
   }
 
@@ -107,12 +107,12 @@ module _ {k bits up down : ℕ} {counts₀ : List ℕ} where
 
     -- the number there is as it was
     not_yet : get_or counts at 0 ≡ get_or counts₀ at 0
-    unfolding one-if
+    unfolding one_if
     not_yet =
         let l = t-small in
         let e = d.moved at (omega arith) in
         let f : (in_word k bits at && not (in_word k m at)) ≡ false = rw (here-word bits, here-word m, t-in, d.inside t t-in) refl in
-        let g = rw (f, one-if) at e in
+        let g = rw (f, one_if) at e in
         omega arith
 
     left : (j : ℕ) → has j (m - 2 ^ t) ≡ (has j m && not (eqb j t))
@@ -153,8 +153,8 @@ module _ {k bits up down : ℕ} {counts₀ : List ℕ} where
 
     module _ (n : ℕ) (new : n + down ≡ get_or counts at 0 + up) where
       turn_moved : (c : ℕ) → c < 640
-          → get_or (set counts at n) c 0 + one-if (in_word k bits c && not (in_word k (m - 2 ^ t) c)) down ≡ get_or counts₀ c 0 + one-if (in_word k bits c && not (in_word k (m - 2 ^ t) c)) up
-      unfolding one-if
+          → get_or (set counts at n) c 0 + one_if (in_word k bits c && not (in_word k (m - 2 ^ t) c)) down ≡ get_or counts₀ c 0 + one_if (in_word k bits c && not (in_word k (m - 2 ^ t) c)) up
+      unfolding one_if
       turn_moved c w =
           by-test (eqb c at)
           (λ e.
@@ -162,41 +162,41 @@ module _ {k bits up down : ℕ} {counts₀ : List ℕ} where
           let f : (in_word k bits at && not (in_word k (m - 2 ^ t) at)) ≡ true = rw (here-word bits, here-word (m - 2 ^ t), left_here, d.inside t t-in) refl in
           let g = get_or-set_same counts at n 0 at_size in
           let y = not_yet in
-          rw (q, f, g, one-if) (omega arith))
+          rw (q, f, g, one_if) (omega arith))
           (λ e.
           let off = eqb-false c at e in
           let g = get_or-set_other counts at c n 0 off in
           rw (other_word c off, g) (d.moved c w))
 
       turn-lows : (j : ℕ) → j < 64
-          → has j (low + one-if (numberAsks n) (2 ^ t)) ≡ ((has j bits && not (has j (m - 2 ^ t))) && numberAsks (get_or (set counts at n) (64 * k + j) 0))
-      unfolding one-if
+          → has j (low + one_if (number_asks n) (2 ^ t)) ≡ ((has j bits && not (has j (m - 2 ^ t))) && number_asks (get_or (set counts at n) (64 * k + j) 0))
+      unfolding one_if
       turn-lows j w =
           by-test (eqb j t)
           (λ e.
           let q = eqb-true j t e in
           let g = get_or-set_same counts at n 0 at_size in
           rw (q, g, left_here, d.inside t t-in)
-          (by-test (numberAsks n)
-          (λ b. rw (b, one-if) (has-put t t low low_free ∙ rw (low_free, eq-eqb t t refl)))
-          (λ b. rw (b, one-if, add-zero low) low_free)))
+          (by-test (number_asks n)
+          (λ b. rw (b, one_if) (has-put t t low low_free ∙ rw (low_free, eq-eqb t t refl)))
+          (λ b. rw (b, one_if, add-zero low) low_free)))
           (λ e.
           let off = eqb-false j t e in
           let far : 64 * k + j ≡ at → ⊥ = λ z. off (omega arith) in
           let g = get_or-set_other counts at (64 * k + j) n 0 far in
           rw (g, left_other j off)
-          (by-test (numberAsks n)
-          (λ b. rw (b, one-if) (has-put t j low low_free ∙ rw e (or-false (has j low)) ∙ d.lows j w))
-          (λ b. rw (b, one-if, add-zero low) (d.lows j w))))
+          (by-test (number_asks n)
+          (λ b. rw (b, one_if) (has-put t j low low_free ∙ rw e (or-false (has j low)) ∙ d.lows j w))
+          (λ b. rw (b, one_if, add-zero low) (d.lows j w))))
 
-      turn_below : (m - 2 ^ t < 2 ^ 64) × (low + one-if (numberAsks n) (2 ^ t) < 2 ^ 64)
-      unfolding one-if
+      turn_below : (m - 2 ^ t < 2 ^ 64) × (low + one_if (number_asks n) (2 ^ t) < 2 ^ 64)
+      unfolding one_if
       turn_below =
           let b = d.below.0 in
           let l = d.below.1 in
-          (omega arith, by-test (numberAsks n) (λ e. rw (e, one-if) word_in.5) (λ e. rw (e, one-if, add-zero low) l))
+          (omega arith, by-test (number_asks n) (λ e. rw (e, one_if) word_in.5) (λ e. rw (e, one_if, add-zero low) l))
 
-      pub word-turn : WordDone k bits (m - 2 ^ t) (low + one-if (numberAsks n) (2 ^ t)) up down counts₀ (set counts at n)
+      pub word-turn : WordDone k bits (m - 2 ^ t) (low + one_if (number_asks n) (2 ^ t)) up down counts₀ (set counts at n)
       word-turn = record {
         size = length-set counts at n ∙ d.size;
         below = turn_below;
@@ -248,11 +248,11 @@ module _ (rows : List ℕ) (x k : ℕ) where
 
 module _ (rows : List ℕ) (x : ℕ) {up down : ℕ} {counts₀ asking₀ : List ℕ} where
   pub pass-start : Moved (first_of rows x 0) up down counts₀ asking₀ counts₀ asking₀
-  unfolding first_of one-if pick
+  unfolding first_of one_if pick
   pass-start = record {
     sizes = (refl, refl);
     below = λ i l. l;
-    moved = λ c w. rw (le-ltb c (64 * 0) (omega arith), one-if);
+    moved = λ c w. rw (le-ltb c (64 * 0) (omega arith), one_if);
     asks = λ c w. rw (le-ltb c (64 * 0) (omega arith), pick);
   }
 
@@ -260,8 +260,8 @@ module _ (rows : List ℕ) (x : ℕ) {up down : ℕ} {counts₀ asking₀ : List
       (m : Moved (first_of rows x k) up down counts₀ asking₀ counts asking) where
     -- the numbers of the next word are as they were
     same_count : (c : ℕ) → c < 640 → c / 64 ≡ k → get_or counts c 0 ≡ get_or counts₀ c 0
-    unfolding one-if
-    same_count c w q = let e = rw (behind rows x k c q, one-if) at (m.moved c w) in omega arith
+    unfolding one_if
+    same_count c w q = let e = rw (behind rows x k c q, one_if) at (m.moved c w) in omega arith
 
     same-ask : (c : ℕ) → c < 640 → c / 64 ≡ k → among asking c ≡ among asking₀ c
     unfolding pick
@@ -296,21 +296,21 @@ module _ (rows : List ℕ) (x : ℕ) {up down : ℕ} {counts₀ asking₀ : List
       far-in c n = rw (ne_eqb (c / 64) k n)
 
       far-count : (c : ℕ) → c < 640 → (c / 64 ≡ k → ⊥) → get_or counts' c 0 ≡ get_or counts c 0
-      unfolding one-if
-      far-count c w n = let e = rw (far-in c n, one-if) at (d.moved c w) in omega arith
+      unfolding one_if
+      far-count c w n = let e = rw (far-in c n, one_if) at (d.moved c w) in omega arith
 
       far-ask : (c : ℕ) → (c / 64 ≡ k → ⊥) → among (set asking k next) c ≡ among asking c
       unfolding among
       far-ask c n = rw (get_or-set_other asking k (c / 64) next 0 n)
 
-      turn-asks : (c : ℕ) → c < 640 → among (set asking k next) c ≡ pick (first_of rows x (k + 1) c) (numberAsks (get_or counts' c 0)) (among asking₀ c)
+      turn-asks : (c : ℕ) → c < 640 → among (set asking k next) c ≡ pick (first_of rows x (k + 1) c) (number_asks (get_or counts' c 0)) (among asking₀ c)
       unfolding pick
       turn-asks c w =
           by-test (eqb (c / 64) k)
           (λ e.
           let q = eqb-true (c / 64) k e in
           let p : 64 * k + c % 64 ≡ c = omega arith in
-          let low-is : has (c % 64) low ≡ (has (c % 64) bits && numberAsks (get_or counts' c 0)) = rw p at (d.lows (c % 64) (omega arith)) in
+          let low-is : has (c % 64) low ≡ (has (c % 64) bits && number_asks (get_or counts' c 0)) = rw p at (d.lows (c % 64) (omega arith)) in
           rw (here-row rows x k is c q)
           (by-test (has (c % 64) bits)
           (λ b. rw (b, pick) (now-ask c q ∙ rw (low-is, b, and-false (among asking c))))
@@ -334,7 +334,7 @@ module _ (rows : List ℕ) (x : ℕ) {up down : ℕ} {counts₀ asking₀ : List
             (λ e.
             let q = eqb-true (c / 64) k e in
             let s = same_count c w q in
-            let b : get_or counts' c 0 + one-if (has (c % 64) bits) down ≡ get_or counts c 0 + one-if (has (c % 64) bits) up = rw (here_in c q) at (d.moved c w) in
+            let b : get_or counts' c 0 + one_if (has (c % 64) bits) down ≡ get_or counts c 0 + one_if (has (c % 64) bits) up = rw (here_in c q) at (d.moved c w) in
             rw (here-row rows x k is c q, ← s) b)
             (λ e.
             let n = eqb-false (c / 64) k e in

@@ -10,9 +10,9 @@ use Rattle.std.proofs.lemmas.List.{length-replicate}
 use Rattle.definitions.specs.Lists.{any}
 use Rattle.theory.specs.Tests.{by-test, and_left}
 use Rattle.bits.specs.Bits.{has-zero, among}
-use Rattle.encoding.specs.ArrayLaws.{getD-repeated}
-use Rattle.counters.specs.Counters.{numberAsks, row_at}
-use Rattle.counters.specs.Weights.{one-if, once, WeightStep, step_sum}
+use Rattle.encoding.specs.ArrayLaws.{get_d-repeated}
+use Rattle.counters.specs.Counters.{number_asks, row_at}
+use Rattle.counters.specs.Weights.{one_if, once, WeightStep, step_sum}
 
 -- a clause's number is its weight; behind the clauses all is 0
 pub record PlacesKept (f : ℕ → ℕ) (clause : ℕ → List ℕ) (clauses : ℕ) (rows counts asking : List ℕ) : Type 0 where
@@ -22,7 +22,7 @@ pub record PlacesKept (f : ℕ → ℕ) (clause : ℕ → List ℕ) (clauses : �
   pub held : (x c : ℕ) → x < 512 → c < 640 → row_at rows x c ≡ (ltb c clauses && any (eqb x) (clause c))
   pub count : (c : ℕ) → c < clauses → get_or counts c 0 ≡ once f (clause c)
   pub free : (c : ℕ) → clauses ≤ c → c < 640 → get_or counts c 0 ≡ 0
-  pub asks : (c : ℕ) → c < 640 → among asking c ≡ (ltb c clauses && numberAsks (get_or counts c 0))
+  pub asks : (c : ℕ) → c < 640 → among asking c ≡ (ltb c clauses && number_asks (get_or counts c 0))
 
 unfoldable pub pick : Bool → Bool → Bool → Bool
 pick true a b = a
@@ -32,14 +32,14 @@ pick false a b = b
 pub record Moved (row : ℕ → Bool) (up down : ℕ) (counts asking counts' asking' : List ℕ) : Type 0 where
   pub sizes : (length counts' ≡ length counts) × (length asking' ≡ length asking)
   pub below : (i : ℕ) → get_or asking i 0 < 2 ^ 64 → get_or asking' i 0 < 2 ^ 64
-  pub moved : (c : ℕ) → c < 640 → get_or counts' c 0 + one-if (row c) down ≡ get_or counts c 0 + one-if (row c) up
-  pub asks : (c : ℕ) → c < 640 → among asking' c ≡ pick (row c) (numberAsks (get_or counts' c 0)) (among asking c)
+  pub moved : (c : ℕ) → c < 640 → get_or counts' c 0 + one_if (row c) down ≡ get_or counts c 0 + one_if (row c) up
+  pub asks : (c : ℕ) → c < 640 → among asking' c ≡ pick (row c) (number_asks (get_or counts' c 0)) (among asking c)
 
 module _ {f g : ℕ → ℕ} {x up down : ℕ} {clause : ℕ → List ℕ} {clauses : ℕ} {rows counts asking counts' asking' : List ℕ} where
   -- over the clauses that hold the word whose weight changes
   pub kept-moved : WeightStep f g x up down → x < 512 → PlacesKept f clause clauses rows counts asking → Moved (row_at rows x) up down counts asking counts' asking'
       → PlacesKept g clause clauses rows counts' asking'
-  unfolding one-if pick
+  unfolding one_if pick
   kept-moved s small k m = record {
     few = k.few;
     sizes = (m.sizes.0 ∙ k.sizes.0, m.sizes.1 ∙ k.sizes.1, k.sizes.2);
@@ -47,13 +47,13 @@ module _ {f g : ℕ → ℕ} {x up down : ℕ} {clause : ℕ → List ℕ} {clau
     held = k.held;
     free = λ c l within.
         let none : row_at rows x c ≡ false = k.held x c small within ∙ rw (le-ltb c clauses l) in
-        let n = rw (none, one-if) at (m.moved c within) in
+        let n = rw (none, one_if) at (m.moved c within) in
         let z = k.free c l within in
         omega arith;
     count = λ c l.
         let within : c < 640 = omega (arith, k.few) in
         let row : row_at rows x c ≡ any (eqb x) (clause c) = k.held x c small within ∙ ap (λ (b : Bool). b && any (eqb x) (clause c)) (lt-ltb c clauses l) in
-        let a : get_or counts' c 0 + one-if (any (eqb x) (clause c)) down ≡ get_or counts c 0 + one-if (any (eqb x) (clause c)) up = rw row at (m.moved c within) in
+        let a : get_or counts' c 0 + one_if (any (eqb x) (clause c)) down ≡ get_or counts c 0 + one_if (any (eqb x) (clause c)) up = rw row at (m.moved c within) in
         let b = step_sum s (clause c) in
         let d = k.count c l in
         omega arith;
@@ -61,11 +61,11 @@ module _ {f g : ℕ → ℕ} {x up down : ℕ} {clause : ℕ → List ℕ} {clau
         by-test (row_at rows x c)
         (λ h.
         let inside = and_left (ltb c clauses) (any (eqb x) (clause c)) (sym (k.held x c small within) ∙ h) in
-        let e : among asking' c ≡ numberAsks (get_or counts' c 0) = rw (h, pick) at (m.asks c within) in
+        let e : among asking' c ≡ number_asks (get_or counts' c 0) = rw (h, pick) at (m.asks c within) in
         rw (e, inside))
         (λ h.
         let e : among asking' c ≡ among asking c = rw (h, pick) at (m.asks c within) in
-        let n = rw (h, one-if) at (m.moved c within) in
+        let n = rw (h, one_if) at (m.moved c within) in
         let q : get_or counts' c 0 ≡ get_or counts c 0 = omega arith in
         rw (e, q) (k.asks c within));
   }
@@ -88,10 +88,10 @@ pub kept-none : (f : ℕ → ℕ) (clause : ℕ → List ℕ) → PlacesKept f c
 unfolding row_at among
 kept-none f clause = record {
   few = omega arith;
-  below = (λ i. rw (getD-repeated {A = ℕ} 0 5120 i) (pow_pos 64), λ i. rw (getD-repeated {A = ℕ} 0 10 i) (pow_pos 64));
-  free = λ c l m. getD-repeated {A = ℕ} 0 640 c;
+  below = (λ i. rw (get_d-repeated {A = ℕ} 0 5120 i) (pow_pos 64), λ i. rw (get_d-repeated {A = ℕ} 0 10 i) (pow_pos 64));
+  free = λ c l m. get_d-repeated {A = ℕ} 0 640 c;
   sizes = (length-replicate {A = ℕ} 640 0, length-replicate {A = ℕ} 10 0, length-replicate {A = ℕ} 5120 0);
-  held = λ x c l m. rw (getD-repeated {A = ℕ} 0 5120 (10 * x + c / 64), le-ltb c 0 (omega arith)) (has-zero (c % 64));
+  held = λ x c l m. rw (get_d-repeated {A = ℕ} 0 5120 (10 * x + c / 64), le-ltb c 0 (omega arith)) (has-zero (c % 64));
   count = λ c l. absurd (omega arith);
-  asks = λ c l. rw (getD-repeated {A = ℕ} 0 10 (c / 64), le-ltb c 0 (omega arith)) (has-zero (c % 64));
+  asks = λ c l. rw (get_d-repeated {A = ℕ} 0 10 (c / 64), le-ltb c 0 (omega arith)) (has-zero (c % 64));
 }

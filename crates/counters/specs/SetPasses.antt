@@ -3,10 +3,10 @@ use Rattle.std.specs.Prelude.{ℕ, ◌+◌, ◌-◌, ◌/◌, ◌%◌, ◌≤◌
 use Rattle.std.proofs.Common.{sym, ◌∙◌, arith, eqb-true, eq-eqb, ne_eqb}
 use Rattle.std.proofs.Math.Path.{ap}
 use Rattle.std.proofs.lemmas.Bool.{eqb-false}
-use Rattle.definitions.specs.LiteralTest.{Value, unsetValue, trueValue, falseValue}
+use Rattle.definitions.specs.LiteralTest.{Value, unset_value, true_value, false_value}
 use Rattle.theory.specs.Tests.{by-test}
 use Rattle.bits.specs.Bits.{by_bit}
-use Rattle.encoding.specs.Values.{Values, sameValue, isFalseValue, isTrueValue, value_at, wordSign, otherSign, literalValue}
+use Rattle.encoding.specs.Values.{Values, same_value, is_false_value, is_true_value, value_at, word_sign, other_sign, literal_value}
 use Rattle.encoding.specs.ValueLaws.{even-sign, odd_sign, by_sign, other-even, other-odd}
 use Rattle.counters.specs.Weights.{weight, weighs, weighs-as, weighs-small, WeightStep}
 
@@ -31,57 +31,57 @@ halfway-small before after x w = by-test (eqb w x) (λ e. rw (e, halfway) (weigh
 
 module _ (x : ℕ) where
   -- the other sign, by this one
-  by-other : {C : Type 0} → (x % 2 ≡ 0 → x + 1 ≡ otherSign x → C) → (x % 2 ≡ 1 → x - 1 ≡ otherSign x → C) → C
+  by-other : {C : Type 0} → (x % 2 ≡ 0 → x + 1 ≡ other_sign x → C) → (x % 2 ≡ 1 → x - 1 ≡ other_sign x → C) → C
   by-other even odd = by_bit x (λ z. even z (other-even x z)) (λ o. odd o (other-odd x (λ z. omega arith)))
 
-  other-atom : otherSign x / 2 ≡ x / 2
+  other-atom : other_sign x / 2 ≡ x / 2
   other-atom = by-other (λ z e. omega arith) (λ o e. omega arith)
 
-  other-apart : otherSign x ≡ x → ⊥
+  other-apart : other_sign x ≡ x → ⊥
   other-apart q = by-other (λ z e. omega arith) (λ o e. omega arith)
 
-  pub other-small : x < 512 → otherSign x < 512
+  pub other-small : x < 512 → other_sign x < 512
   other-small l = by-other (λ z e. omega arith) (λ o e. omega arith)
 
-  only_two : (w : ℕ) → w / 2 ≡ x / 2 → (w ≡ x → ⊥) → w ≡ otherSign x
+  only_two : (w : ℕ) → w / 2 ≡ x / 2 → (w ≡ x → ⊥) → w ≡ other_sign x
   only_two w q n = by-other (λ z e. omega (arith, n)) (λ o e. omega (arith, n))
 
-  opposed : wordSign (otherSign x) *ℤ wordSign x ≡ falseValue
+  opposed : word_sign (other_sign x) *ℤ word_sign x ≡ false_value
   opposed =
       by-other
-      (λ z e. rw (odd_sign (otherSign x) (omega arith), even-sign x z))
-      (λ o e. rw (even-sign (otherSign x) (omega arith), odd_sign x o))
+      (λ z e. rw (odd_sign (other_sign x) (omega arith), even-sign x z))
+      (λ o e. rw (even-sign (other_sign x) (omega arith), odd_sign x o))
 
-  squared : wordSign x *ℤ wordSign x ≡ trueValue
-  squared = by_sign x (λ s. s *ℤ s ≡ trueValue) refl refl
+  squared : word_sign x *ℤ word_sign x ≡ true_value
+  squared = by_sign x (λ s. s *ℤ s ≡ true_value) refl refl
 
-  no-state : wordSign x *ℤ unsetValue ≡ unsetValue
-  no-state = by_sign x (λ s. s *ℤ unsetValue ≡ unsetValue) refl refl
+  no-state : word_sign x *ℤ unset_value ≡ unset_value
+  no-state = by_sign x (λ s. s *ℤ unset_value ≡ unset_value) refl refl
 
 -- ── the passes ──
 
 -- the literal is unset under the first values, true under the second, and they say the same of every other atom
 pub record SetsLiteral (before after : Values) (x : ℕ) : Type 0 where
-  pub unset : value_at before (x / 2) ≡ unsetValue
-  pub its : value_at after (x / 2) ≡ wordSign x
+  pub unset : value_at before (x / 2) ≡ unset_value
+  pub its : value_at after (x / 2) ≡ word_sign x
   pub others : (i : ℕ) → (x / 2 ≡ i → ⊥) → value_at after i ≡ value_at before i
 
 module _ {before after : Values} {x : ℕ} (s : SetsLiteral before after x) where
   unset-weighs : (w : ℕ) → w / 2 ≡ x / 2 → weighs before w ≡ 1
-  unfolding weight literalValue isFalseValue isTrueValue sameValue
-  unset-weighs w q = weighs-as before w unsetValue (rw (q, s.unset) (no-state w))
+  unfolding weight literal_value is_false_value is_true_value same_value
+  unset-weighs w q = weighs-as before w unset_value (rw (q, s.unset) (no-state w))
 
   set-weighs : weighs after x ≡ 257
-  unfolding weight literalValue isFalseValue isTrueValue sameValue
-  set-weighs = weighs-as after x trueValue (rw s.its (squared x))
+  unfolding weight literal_value is_false_value is_true_value same_value
+  set-weighs = weighs-as after x true_value (rw s.its (squared x))
 
-  other-weighs : weighs after (otherSign x) ≡ 0
-  unfolding weight literalValue isFalseValue isTrueValue sameValue
-  other-weighs = weighs-as after (otherSign x) falseValue (rw (other-atom x, s.its) (opposed x))
+  other-weighs : weighs after (other_sign x) ≡ 0
+  unfolding weight literal_value is_false_value is_true_value same_value
+  other-weighs = weighs-as after (other_sign x) false_value (rw (other-atom x, s.its) (opposed x))
 
-  elsewhere : (w : ℕ) → (w ≡ x → ⊥) → (w ≡ otherSign x → ⊥) → weighs after w ≡ weighs before w
-  unfolding weighs literalValue
-  elsewhere w n m = ap (λ (v : Value). weight (wordSign w *ℤ v)) (s.others (w / 2) (λ q. m (only_two x w (sym q) n)))
+  elsewhere : (w : ℕ) → (w ≡ x → ⊥) → (w ≡ other_sign x → ⊥) → weighs after w ≡ weighs before w
+  unfolding weighs literal_value
+  elsewhere w n m = ap (λ (v : Value). weight (word_sign w *ℤ v)) (s.others (w / 2) (λ q. m (only_two x w (sym q) n)))
 
   pub first-pass : WeightStep (weighs before) (halfway (weighs before) (weighs after) x) x 256 0
   first-pass = record {
@@ -93,14 +93,14 @@ module _ {before after : Values} {x : ℕ} (s : SetsLiteral before after x) wher
         omega arith;
   }
 
-  pub second-pass : WeightStep (halfway (weighs before) (weighs after) x) (weighs after) (otherSign x) 0 1
+  pub second-pass : WeightStep (halfway (weighs before) (weighs after) x) (weighs after) (other_sign x) 0 1
   second-pass = record {
     same = λ w n. by-test (eqb w x)
         (λ e. let q = eqb-true w x e in rw q (sym (halfway-here (weighs before) (weighs after) x)))
         (λ e. let m = eqb-false w x e in elsewhere w m n ∙ sym (halfway-other (weighs before) (weighs after) x w m));
     here =
-        let a = halfway-other (weighs before) (weighs after) x (otherSign x) (other-apart x) in
+        let a = halfway-other (weighs before) (weighs after) x (other_sign x) (other-apart x) in
         let b = other-weighs in
-        let c = unset-weighs (otherSign x) (other-atom x) in
+        let c = unset-weighs (other_sign x) (other-atom x) in
         omega arith;
   }

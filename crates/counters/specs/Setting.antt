@@ -3,16 +3,16 @@ use Rattle.std.specs.Prelude.{ℕ, ◌+◌, ◌-◌, ◌*◌, ◌/◌, ◌%◌, 
 use Rattle.std.proofs.Common.{sym, ◌∙◌, arith, length-take, le-ltb, ltb-true, eqb-true}
 use Rattle.std.proofs.lemmas.Bool.{eqb-false}
 use Rattle.definitions.specs.Lists.{any}
-use Rattle.definitions.specs.LiteralTest.{unsetValue}
+use Rattle.definitions.specs.LiteralTest.{unset_value}
 use Rattle.theory.specs.Tests.{by-test, and_left, and_right}
-use Rattle.encoding.specs.Lengths.{literalArray}
-use Rattle.encoding.specs.Values.{Values, value_at, wordSign, otherSign, assigned, unassigned}
+use Rattle.encoding.specs.Lengths.{literal_array}
+use Rattle.encoding.specs.Values.{Values, value_at, word_sign, other_sign, assigned, unassigned}
 use Rattle.encoding.specs.ValueLaws.{even-sign, odd_sign, assigned-even, assigned-odd, unassigned-here, assigned-elsewhere, unassigned-elsewhere}
-use Rattle.units.specs.Units.{clauseAt, ClausesFit}
+use Rattle.units.specs.Units.{clause_at, ClausesFit}
 use Rattle.counters.specs.Weights.{weighs, weighs-small, once-holds, once-bound, WeightStep, step_back}
 use Rattle.counters.specs.SetPasses.{halfway, halfway-small, other-small, SetsLiteral, first-pass, second-pass}
 use Rattle.counters.specs.PlacesKept.{PlacesKept, Moved, kept-moved}
-use Rattle.counters.specs.Counters.{Counters, countersOf, counters, row_at}
+use Rattle.counters.specs.Counters.{Counters, counters_of, counters, row_at}
 use Rattle.counters.specs.CounterLaws.{kept-counters, counters-kept}
 use Rattle.counters.specs.Passes.{RowFits, first_of, pass-end}
 
@@ -22,15 +22,15 @@ pub record CountersFit (values : Values) (words : ℕ) (k : Counters) : Type 0 w
   pub clause : ℕ → List ℕ
   pub clauses : ℕ
   pub covered : clauses ≤ 64 * words
-  pub short : (c : ℕ) → c < clauses → length (clause c) ≤ literalArray
-  pub its : k ≡ countersOf values clause clauses
+  pub short : (c : ℕ) → c < clauses → length (clause c) ≤ literal_array
+  pub its : k ≡ counters_of values clause clauses
 
 -- the clauses of the arrays, over the words that they take
 pub counters-fit : {starts literals heads : List ℕ} {given clauses : ℕ} {values : Values} {k : Counters} → ClausesFit starts literals heads given clauses
-    → k ≡ countersOf values (λ c. clauseAt starts literals c) clauses → CountersFit values ((clauses + 63) / 64) k
-unfolding clauseAt
+    → k ≡ counters_of values (λ c. clause_at starts literals c) clauses → CountersFit values ((clauses + 63) / 64) k
+unfolding clause_at
 counters-fit {starts = starts} {literals = literals} {clauses = clauses} fit e = record {
-  clause = λ c. clauseAt starts literals c;
+  clause = λ c. clause_at starts literals c;
   clauses = clauses;
   covered = omega arith;
   short = λ c l. let a = fit.inside (c + 1) (omega arith) in let b = length-take (get_or starts (c + 1) 0 - get_or starts c 0) (drop (get_or starts c 0) literals) in omega arith;
@@ -40,7 +40,7 @@ counters-fit {starts = starts} {literals = literals} {clauses = clauses} fit e =
 -- they stay the counters of whatever clauses they were the counters of
 abbrev pub StayKept : ℕ → Values → Counters → Values → Counters → Type 0
 StayKept words values k values' k' =
-    (clause : ℕ → List ℕ) (clauses : ℕ) → clauses ≤ 64 * words → k ≡ countersOf values clause clauses → k' ≡ countersOf values' clause clauses
+    (clause : ℕ → List ℕ) (clauses : ℕ) → clauses ≤ 64 * words → k ≡ counters_of values clause clauses → k' ≡ counters_of values' clause clauses
 
 pub stay-fit : (values values' : Values) {words : ℕ} {k k' : Counters} → StayKept words values k values' k' → CountersFit values words k
     → CountersFit values' words k'
@@ -59,7 +59,7 @@ record Passable (f g : ℕ → ℕ) (x up down : ℕ) : Type 0 where
 
 -- what a pass asks for
 row-needs : {f g : ℕ → ℕ} {x up down words clauses : ℕ} {clause : ℕ → List ℕ} {rows counts asking : List ℕ} → words ≤ 10 → Passable f g x up down
-    → ((c : ℕ) → c < clauses → length (clause c) ≤ literalArray) → PlacesKept f clause clauses rows counts asking → RowFits x words up down rows counts asking
+    → ((c : ℕ) → c < clauses → length (clause c) ≤ literal_array) → PlacesKept f clause clauses rows counts asking → RowFits x words up down rows counts asking
 row-needs {f = f} {x = x} {up = up} {down = down} {clauses = clauses} {clause = clause} {rows = rows} {counts = counts} few p short k =
     (p.word, few, k.sizes.0, k.sizes.1, fits)
   where
@@ -88,7 +88,7 @@ module _ {before after : Values} {x : ℕ} (s : SetsLiteral before after x) (l :
   set_first : Passable (weighs before) (halfway (weighs before) (weighs after) x) x 256 0
   set_first = record { step = first-pass s; word = l; enough = omega arith; small = weighs-small before; little = omega arith }
 
-  set-second : Passable (halfway (weighs before) (weighs after) x) (weighs after) (otherSign x) 0 1
+  set-second : Passable (halfway (weighs before) (weighs after) x) (weighs after) (other_sign x) 0 1
   set-second = record {
     step = second-pass s;
     word = other-small x l;
@@ -98,7 +98,7 @@ module _ {before after : Values} {x : ℕ} (s : SetsLiteral before after x) (l :
   }
 
   -- undoing: the same two backwards
-  undo-first : Passable (weighs after) (halfway (weighs before) (weighs after) x) (otherSign x) 1 0
+  undo-first : Passable (weighs after) (halfway (weighs before) (weighs after) x) (other_sign x) 1 0
   undo-first = record { step = step_back (second-pass s); word = other-small x l; enough = omega arith; small = weighs-small after; little = omega arith }
 
   undo-second : Passable (halfway (weighs before) (weighs after) x) (weighs before) x 0 256
@@ -116,15 +116,15 @@ module _ {before after : Values} {x : ℕ} (s : SetsLiteral before after x) (l :
 pub record IsUnset (values : Values) (w : ℕ) : Type 0 where
   pub inside : w / 2 < 256
   pub size : length values ≡ 8
-  pub state : value_at values (w / 2) ≡ unsetValue
+  pub state : value_at values (w / 2) ≡ unset_value
 
 pub record IsSet (values : Values) (w : ℕ) : Type 0 where
   pub inside : w / 2 < 256
   pub size : length values ≡ 8
-  pub state : value_at values (w / 2) ≡ wordSign w
+  pub state : value_at values (w / 2) ≡ word_sign w
 
 -- the state of an atom whose literal is set is the literal's sign
-assigned-sign : (values : Values) (w : ℕ) → w / 2 < 256 → length values ≡ 8 → value_at (assigned values w) (w / 2) ≡ wordSign w
+assigned-sign : (values : Values) (w : ℕ) → w / 2 < 256 → length values ≡ 8 → value_at (assigned values w) (w / 2) ≡ word_sign w
 assigned-sign values w inside size =
     by-test (eqb (w % 2) 0)
     (λ e. let z = eqb-true (w % 2) 0 e in
@@ -160,7 +160,7 @@ module _ (before after : Values) {words : ℕ} {f : ℕ → ℕ} {x y up down up
     both-passed n clause clauses l e =
         kept-counters after clause clauses (passed words q l n (passed words p l m (counters-kept before clause clauses (omega arith) e)))
 
-module _ (w : ℕ) (small : w < 512) (words : ℕ) (few : words ≤ 10) {rows counts asking : List ℕ} {other : ℕ} (is : other ≡ otherSign w) where
+module _ (w : ℕ) (small : w < 512) (words : ℕ) (few : words ≤ 10) {rows counts asking : List ℕ} {other : ℕ} (is : other ≡ other_sign w) where
   module _ (values : Values) (u : IsUnset values w) where
     pub set-needs : CountersFit values words (counters rows counts asking) → RowFits w words 256 0 rows counts asking
     set-needs = first-needs values (assigned values w) few (set_first (sets-unset u) small) (set-second (sets-unset u) small)

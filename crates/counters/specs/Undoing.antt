@@ -3,7 +3,7 @@ use Rattle.std.specs.Prelude.{ℕ, ◌+◌, ◌-◌, ◌/◌, ◌%◌, ◌≤◌
 use Rattle.std.proofs.Common.{sym, ◌∙◌, arith, eqb-true}
 use mathlib.Core.List.{List, [], ◌∷◌}
 use Rattle.std.proofs.lemmas.Bool.{eqb-false}
-use Rattle.definitions.specs.LiteralTest.{unsetValue}
+use Rattle.definitions.specs.LiteralTest.{unset_value}
 use Rattle.theory.specs.Tests.{by-test}
 use Rattle.encoding.specs.Values.{Values, value_at, unassigned}
 use Rattle.encoding.specs.ValueLaws.{unassigned-here, unassigned-elsewhere, length-unassigned}
@@ -83,7 +83,7 @@ module _ {words : ℕ} {trail : List ℕ} {k₀ : Counters} {from n i : ℕ} {k 
 -- ── what is undone is unset ──
 
 module _ (i : ℕ) (inside : i < 256) where
-  cleared-stays : (values : Values) (ws : List ℕ) → length values ≡ 8 → value_at values i ≡ unsetValue → value_at (cleared values ws) i ≡ unsetValue
+  cleared-stays : (values : Values) (ws : List ℕ) → length values ≡ 8 → value_at values i ≡ unset_value → value_at (cleared values ws) i ≡ unset_value
   unfolding cleared
   cleared-stays values [] size e = e
   cleared-stays values (w ∷ ws) size e =
@@ -92,7 +92,7 @@ module _ (i : ℕ) (inside : i < 256) where
       (λ q. unassigned-here values i inside size w (eqb-true (w / 2) i q))
       (λ q. unassigned-elsewhere values w i (eqb-false (w / 2) i q) ∙ e))
 
-  cleared-first : (values : Values) (w : ℕ) (ws : List ℕ) → length values ≡ 8 → w / 2 ≡ i → value_at (cleared values (w ∷ ws)) i ≡ unsetValue
+  cleared-first : (values : Values) (w : ℕ) (ws : List ℕ) → length values ≡ 8 → w / 2 ≡ i → value_at (cleared values (w ∷ ws)) i ≡ unset_value
   unfolding cleared
   cleared-first values w ws size q = cleared-stays (unassigned values w) ws (length-unassigned values w ∙ size) (unassigned-here values i inside size w q)
 

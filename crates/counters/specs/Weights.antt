@@ -11,37 +11,37 @@ use Rattle.definitions.specs.Lists.{any, filter, distinct}
 use Rattle.definitions.specs.LiteralTest.{Value}
 use Rattle.theory.specs.Tests.{by-test}
 use Rattle.theory.specs.ListLaws.{any_append}
-use Rattle.encoding.specs.Values.{Values, sameValue, isFalseValue, isTrueValue, literalValue, falseWord, trueWord}
-use Rattle.units.specs.Units.{notFalseWords}
-use Rattle.counters.specs.Counters.{countNotFalse, count_true, readWhole}
+use Rattle.encoding.specs.Values.{Values, same_value, is_false_value, is_true_value, literal_value, false_word, true_word}
+use Rattle.units.specs.Units.{not_false_words}
+use Rattle.counters.specs.Counters.{count_not_false, count_true, read_whole}
 
 -- ── weights ──
 
-unfoldable pub one-if : Bool → ℕ → ℕ
-one-if true n = n
-one-if false n = 0
+unfoldable pub one_if : Bool → ℕ → ℕ
+one_if true n = n
+one_if false n = 0
 
 unfoldable pub weight : Value → ℕ
-weight v = elim (isFalseValue v) [ true ↦ 0 | false ↦ elim (isTrueValue v) [ true ↦ 257 | false ↦ 1 ] ]
+weight v = elim (is_false_value v) [ true ↦ 0 | false ↦ elim (is_true_value v) [ true ↦ 257 | false ↦ 1 ] ]
 
 -- of a word under values
 unfoldable pub weighs : Values → ℕ → ℕ
-weighs values w = weight (literalValue values w)
+weighs values w = weight (literal_value values w)
 
-pub weighs-as : (values : Values) (w : ℕ) (v : Value) → literalValue values w ≡ v → weighs values w ≡ weight v
+pub weighs-as : (values : Values) (w : ℕ) (v : Value) → literal_value values w ≡ v → weighs values w ≡ weight v
 unfolding weighs
 weighs-as values w v e = ap weight e
 
 weight-small : (v : Value) → weight v ≤ 257
 unfolding weight
 weight-small v =
-    by-test (isFalseValue v)
+    by-test (is_false_value v)
     (λ e. rw (e, weight) (omega arith))
-    (λ e. by-test (isTrueValue v) (λ t. rw (e, t, weight) (omega arith)) (λ t. rw (e, t, weight) (omega arith)))
+    (λ e. by-test (is_true_value v) (λ t. rw (e, t, weight) (omega arith)) (λ t. rw (e, t, weight) (omega arith)))
 
 pub weighs-small : (values : Values) (w : ℕ) → weighs values w ≤ 257
 unfolding weighs
-weighs-small values w = weight-small (literalValue values w)
+weighs-small values w = weight-small (literal_value values w)
 
 -- ── their sum, a repeated word counting once ──
 
@@ -97,8 +97,8 @@ pub any_snoc : (x : ℕ) (ws : List ℕ) (w : ℕ) → any (eqb x) (ws ++ (w ∷
 unfolding any
 any_snoc x ws w = any_append (eqb x) ws (w ∷ []) ∙ ap (λ (b : Bool). any (eqb x) ws || b) (or-false (eqb x w))
 
-pub once-snoc : (f : ℕ → ℕ) (ws : List ℕ) (w : ℕ) → once f (ws ++ (w ∷ [])) ≡ once f ws + one-if (not (any (eqb w) ws)) (f w)
-unfolding once any one-if
+pub once-snoc : (f : ℕ → ℕ) (ws : List ℕ) (w : ℕ) → once f (ws ++ (w ∷ [])) ≡ once f ws + one_if (not (any (eqb w) ws)) (f w)
+unfolding once any one_if
 once-snoc f [] w = omega arith
 once-snoc f (v ∷ vs) w =
     let i = once-snoc f vs w in
@@ -110,8 +110,8 @@ once-snoc f (v ∷ vs) w =
     (λ q.
     let e = eqb-true w v q in
     let b : any (eqb w) vs ≡ true = rw e a in
-    let i' : once f (vs ++ (w ∷ [])) ≡ once f vs + 0 = rw (b, one-if) at i in
-    rw (once-again f v (vs ++ (w ∷ [])) more, once-again f v vs a, any_here w v vs e, one-if) i')
+    let i' : once f (vs ++ (w ∷ [])) ≡ once f vs + 0 = rw (b, one_if) at i in
+    rw (once-again f v (vs ++ (w ∷ [])) more, once-again f v vs a, any_here w v vs e, one_if) i')
     (λ q. rw (once-again f v (vs ++ (w ∷ [])) more, once-again f v vs a, any-there w v vs (eqb-false w v q)) i))
     (λ a.
     by-test (eqb v w)
@@ -119,9 +119,9 @@ once-snoc f (v ∷ vs) w =
     let e = eqb-true v w q in
     let more : any (eqb v) (vs ++ (w ∷ [])) ≡ true = s ∙ rw (q, a) in
     let b : any (eqb w) vs ≡ false = rw (← e) a in
-    let i' : once f (vs ++ (w ∷ [])) ≡ once f vs + f w = rw (b, one-if) at i in
+    let i' : once f (vs ++ (w ∷ [])) ≡ once f vs + f w = rw (b, one_if) at i in
     let g : f v ≡ f w = ap f e in
-    rw (once-again f v (vs ++ (w ∷ [])) more, once-new f v vs a, any_here w v vs (sym e), one-if) (omega arith))
+    rw (once-again f v (vs ++ (w ∷ [])) more, once-new f v vs a, any_here w v vs (sym e), one_if) (omega arith))
     (λ q.
     let n = eqb-false v w q in
     let none : any (eqb v) (vs ++ (w ∷ [])) ≡ false = s ∙ rw (q, a) in
@@ -130,8 +130,8 @@ once-snoc f (v ∷ vs) w =
 -- ── one word's weight changes ──
 
 module _ (f g : ℕ → ℕ) (x : ℕ) (same : (w : ℕ) → (w ≡ x → ⊥) → g w ≡ f w) where
-  changed : (ws : List ℕ) → once g ws + one-if (any (eqb x) ws) (f x) ≡ once f ws + one-if (any (eqb x) ws) (g x)
-  unfolding one-if once any
+  changed : (ws : List ℕ) → once g ws + one_if (any (eqb x) ws) (f x) ≡ once f ws + one_if (any (eqb x) ws) (g x)
+  unfolding one_if once any
   changed [] = refl
   changed (w ∷ ws) =
       by-test (eqb x w)
@@ -165,12 +165,12 @@ pub step_back : {f g : ℕ → ℕ} {x up down : ℕ} → WeightStep f g x up do
 step_back s = record { same = λ w n. sym (s.same w n); here = sym s.here }
 
 pub step_sum : {f g : ℕ → ℕ} {x up down : ℕ} → WeightStep f g x up down → (ws : List ℕ)
-    → once g ws + one-if (any (eqb x) ws) down ≡ once f ws + one-if (any (eqb x) ws) up
-unfolding one-if
+    → once g ws + one_if (any (eqb x) ws) down ≡ once f ws + one_if (any (eqb x) ws) up
+unfolding one_if
 step_sum {f = f} {g = g} {x = x} s ws =
     let h = s.here in
     let c = changed f g x s.same ws in
-    by-test (any (eqb x) ws) (λ a. rw (a, one-if) (let d = rw (a, one-if) at c in omega arith)) (λ a. rw (a, one-if) (let d = rw (a, one-if) at c in omega arith))
+    by-test (any (eqb x) ws) (λ a. rw (a, one_if) (let d = rw (a, one_if) at c in omega arith)) (λ a. rw (a, one_if) (let d = rw (a, one_if) at c in omega arith))
 
 -- ── the sum is what reading the clause whole gives ──
 
@@ -199,35 +199,35 @@ unfolding without
 without_other x f w n = rw (ne_eqb x w (λ q. n (sym q)), without)
 
 once-distinct : (f : ℕ → ℕ) (ws : List ℕ) → total f (distinct eqb ws) ≡ once f ws
-unfolding total distinct once any one-if
+unfolding total distinct once any one_if
 once-distinct f [] = refl
 once-distinct f (w ∷ ws) =
     let i : total f (filter (λ (y : ℕ). not (eqb w y)) (distinct eqb ws)) ≡ once (without w f) ws = total-without w f (distinct eqb ws) ∙ once-distinct (without w f) ws in
     let c = changed f (without w f) w (without_other w f) ws in
     let z = without-here w f in
     by-test (any (eqb w) ws)
-    (λ a. rw (a, once) (let d = rw (a, one-if) at c in omega arith))
-    (λ a. rw (a, once) (let d = rw (a, one-if) at c in omega arith))
+    (λ a. rw (a, once) (let d = rw (a, one_if) at c in omega arith))
+    (λ a. rw (a, once) (let d = rw (a, one_if) at c in omega arith))
 
 -- what is false is not true
-pub false-not-true : (v : Value) → isFalseValue v ≡ true → isTrueValue v ≡ false
-unfolding isFalseValue isTrueValue sameValue
+pub false-not-true : (v : Value) → is_false_value v ≡ true → is_true_value v ≡ false
+unfolding is_false_value is_true_value same_value
 false-not-true (pos n) e = absurd (false≢true e)
 false-not-true (negsuc n) e = refl
 
 -- both counts are sums of weights
 counts-total : (values : Values) (ws : List ℕ)
-    → length (filter (λ (w : ℕ). not (falseWord values w)) ws) + 256 * length (filter (trueWord values) ws) ≡ total (λ (w : ℕ). weight (literalValue values w)) ws
-unfolding filter total weight falseWord trueWord
+    → length (filter (λ (w : ℕ). not (false_word values w)) ws) + 256 * length (filter (true_word values) ws) ≡ total (λ (w : ℕ). weight (literal_value values w)) ws
+unfolding filter total weight false_word true_word
 counts-total values [] = refl
 counts-total values (w ∷ ws) =
     let i = counts-total values ws in
-    by-test (isFalseValue (literalValue values w))
-    (λ e. let n = false-not-true (literalValue values w) e in rw (e, n, filter, total, weight) (omega arith))
-    (λ e. by-test (isTrueValue (literalValue values w))
+    by-test (is_false_value (literal_value values w))
+    (λ e. let n = false-not-true (literal_value values w) e in rw (e, n, filter, total, weight) (omega arith))
+    (λ e. by-test (is_true_value (literal_value values w))
     (λ t. rw (e, t, filter, total, weight) (omega arith))
     (λ t. rw (e, t, filter, total, weight) (omega arith)))
 
-pub whole-is-once : (values : Values) (ws : List ℕ) → readWhole values ws ≡ once (weighs values) ws
-unfolding readWhole countNotFalse count_true notFalseWords weighs
+pub whole-is-once : (values : Values) (ws : List ℕ) → read_whole values ws ≡ once (weighs values) ws
+unfolding read_whole count_not_false count_true not_false_words weighs
 whole-is-once values ws = counts-total values (distinct eqb ws) ∙ once-distinct (weighs values) ws

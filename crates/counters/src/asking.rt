@@ -1,10 +1,10 @@
 // Step A over the clauses that ask.
 ghost use Rattle.std.specs.Prelude.{◌≡◌, true, List, ℕ, ◌+◌, ◌-◌, ◌≤◌, ◌<◌, get_or, take, drop};
 ghost use Rattle.bits.specs.Bits.{among};
-ghost use Rattle.encoding.specs.Lengths.{literalArray};
-ghost use Rattle.units.specs.Units.{clauseAt, actAt, actFrom, ClausesFit};
-ghost use Rattle.counters.specs.Counters.{readWhole, counters, countersOf};
-ghost use Rattle.counters.specs.ByNumber.{firstOpen, maySetAt};
+ghost use Rattle.encoding.specs.Lengths.{literal_array};
+ghost use Rattle.units.specs.Units.{clause_at, act_at, act_from, ClausesFit};
+ghost use Rattle.counters.specs.Counters.{read_whole, counters, counters_of};
+ghost use Rattle.counters.specs.ByNumber.{first_open, may_set_at};
 ghost use Rattle.counters.specs.Asking.{Unasked};
 
 use crate::{PLACES, WORDS};
@@ -33,8 +33,8 @@ fn next_asking(asking: &[u64; WORDS], c: usize, clauses: usize) -> usize
 
 // The place of the first word that is not false, from one place up to another.
 fn first_open(values: &Values, literals: &[u16; LITERALS], from: usize, end: usize) -> usize
-    requires { (from ≤ end) × (end ≤ literalArray) × ((i : ℕ) → i < end → get_or literals.now i 0 < 512) }
-    ensures { result ≡ from + firstOpen values.now (take (end - from) (drop from literals.now)) }
+    requires { (from ≤ end) × (end ≤ literal_array) × ((i : ℕ) → i < end → get_or literals.now i 0 < 512) }
+    ensures { result ≡ from + first_open values.now (take (end - from) (drop from literals.now)) }
 {
     let words: &[u16] = literals; // the proof knows a slice's length
     let mut i = from;
@@ -58,7 +58,7 @@ fn may_set(
     before: usize,
 ) -> bool
     requires { (goals ≤ 256) × (c < given + 512) }
-    ensures { result ≡ maySetAt heads.now given goals c w before }
+    ensures { result ≡ may_set_at heads.now given goals c w before }
 {
     if encoding::wide(w) < 2 * goals {
         return true;
@@ -82,8 +82,8 @@ fn act_at(
     c: usize,
 ) -> UnitAct
     requires { (goals ≤ 256) × ClausesFit starts.now literals.now heads.now given (c + 1)
-        × (get_or counts.now c 0 ≡ readWhole values.now (clauseAt starts.now literals.now c)) × (get_or counts.now c 0 ≤ 1) }
-    ensures { result ≡ actAt values.now starts.now literals.now heads.now given goals c }
+        × (get_or counts.now c 0 ≡ read_whole values.now (clause_at starts.now literals.now c)) × (get_or counts.now c 0 ≤ 1) }
+    ensures { result ≡ act_at values.now starts.now literals.now heads.now given goals c }
 {
     if counts[c] == 0 {
         return UnitAct::Conflict;
@@ -112,8 +112,8 @@ pub fn next_act(
     clauses: usize,
 ) -> UnitAct
     requires { (goals ≤ 256) × ClausesFit starts.now literals.now heads.now given clauses
-        × ((rows : List ℕ) × (counters rows counts.now asking.now ≡ countersOf values.now (λ c. clauseAt starts.now literals.now c) clauses)) }
-    ensures { result ≡ actFrom values.now starts.now literals.now heads.now given goals 0 clauses }
+        × ((rows : List ℕ) × (counters rows counts.now asking.now ≡ counters_of values.now (λ c. clause_at starts.now literals.now c) clauses)) }
+    ensures { result ≡ act_from values.now starts.now literals.now heads.now given goals 0 clauses }
 {
     let mut c = next_asking(asking, 0, clauses);
     while c < clauses {

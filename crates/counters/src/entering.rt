@@ -1,9 +1,9 @@
 // A clause is entered: its bits in the rows of its words, its number, and whether it asks.
 ghost use Rattle.std.specs.Prelude.{◌≡◌, List, ℕ, ◌+◌, ◌≤◌, ◌<◌, ◌/◌, ◌%◌, ◌*◌, length, get_or, false};
 ghost use Rattle.counters.specs.Weights.{weight, weighs};
-ghost use Rattle.counters.specs.Counters.{countersOf, countersNow, lentCounters, row_at};
-ghost use Rattle.encoding.specs.Lengths.{literalArray};
-ghost use Rattle.units.specs.Units.{clauseAt, ClausesFit};
+ghost use Rattle.counters.specs.Counters.{counters_of, counters_now, lent_counters, row_at};
+ghost use Rattle.encoding.specs.Lengths.{literal_array};
+ghost use Rattle.units.specs.Units.{clause_at, ClausesFit};
 ghost use Rattle.counters.specs.Entering.{Entering, part};
 
 use crate::{PLACES, ROWS, WORDS, passes};
@@ -41,7 +41,7 @@ fn enter_words(
     end: usize,
     c: usize,
 ) -> u32
-    requires { (from ≤ end) × (end ≤ literalArray) × (c < 640) × (length rows.old ≡ 5120) × ((i : ℕ) → i < end → get_or literals.now i 0 < 512)
+    requires { (from ≤ end) × (end ≤ literal_array) × (c < 640) × (length rows.old ≡ 5120) × ((i : ℕ) → i < end → get_or literals.now i 0 < 512)
         × ((x : ℕ) → x < 512 → row_at rows.old x c ≡ false) }
     ensures { Entering (weighs values.now) c result (part literals.now from end) rows.old rows.new }
 {
@@ -76,11 +76,11 @@ pub fn enter_clause(
     end: usize,
     c: usize,
 )
-    requires { (from ≤ end) × (end ≤ literalArray) × (c < 640) × ((i : ℕ) → i < end → get_or literals.now i 0 < 512)
-        × ((clause : ℕ → List ℕ) × (countersNow rows counts asking ≡ countersOf values.now clause c)) }
+    requires { (from ≤ end) × (end ≤ literal_array) × (c < 640) × ((i : ℕ) → i < end → get_or literals.now i 0 < 512)
+        × ((clause : ℕ → List ℕ) × (counters_now rows counts asking ≡ counters_of values.now clause c)) }
     ensures { (clause : ℕ → List ℕ) → clause c ≡ part literals.now from end
-        → (lentCounters rows counts asking).entry ≡ countersOf values.now clause c
-        → (lentCounters rows counts asking).exit ≡ countersOf values.now clause (c + 1) }
+        → (lent_counters rows counts asking).entry ≡ counters_of values.now clause c
+        → (lent_counters rows counts asking).exit ≡ counters_of values.now clause (c + 1) }
 {
     let n = enter_words(values, literals, rows, from, end, c);
     let k = c / 64;
@@ -101,8 +101,8 @@ pub fn enter_all(
     clauses: usize,
 )
     requires { ((heads : List ℕ) × (given : ℕ) × ClausesFit starts.now literals.now heads given clauses)
-        × (countersNow rows counts asking ≡ countersOf values.now (λ c. clauseAt starts.now literals.now c) 0) }
-    ensures { (lentCounters rows counts asking).exit ≡ countersOf values.now (λ c. clauseAt starts.now literals.now c) clauses }
+        × (counters_now rows counts asking ≡ counters_of values.now (λ c. clause_at starts.now literals.now c) 0) }
+    ensures { (lent_counters rows counts asking).exit ≡ counters_of values.now (λ c. clause_at starts.now literals.now c) clauses }
 {
     let mut c: usize = 0;
     while c < clauses {

@@ -1,7 +1,7 @@
 // Passes over the clauses that hold a literal.
 ghost use Rattle.std.specs.Prelude.{◌≡◌, ◌+◌, ◌-◌, ◌*◌, ◌^◌, ◌≤◌, ◌<◌, length};
-ghost use Rattle.counters.specs.Counters.{numberAsks};
-ghost use Rattle.counters.specs.Weights.{one-if};
+ghost use Rattle.counters.specs.Counters.{number_asks};
+ghost use Rattle.counters.specs.Weights.{one_if};
 ghost use Rattle.counters.specs.PlacesKept.{Moved};
 ghost use Rattle.counters.specs.Passes.{WordFits, RowFits, WordMoved, first_of};
 
@@ -10,7 +10,7 @@ use bits::long;
 
 // The bit, if the number is that of a clause that asks.
 pub fn asking_bit(n: u32, bit: u64) -> u64
-    ensures { (result ≡ one-if (numberAsks n) bit) × (result ≤ bit) }
+    ensures { (result ≡ one_if (number_asks n) bit) × (result ≤ bit) }
 {
     if 1 < n {
         return 0;

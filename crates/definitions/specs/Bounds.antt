@@ -3,68 +3,68 @@ use Rattle.std.specs.Prelude.{ℕ}
 
 -- ── "The sheet" ──
 
-abbrev pub sheetBytes : ℕ
-sheetBytes = 16384
+abbrev pub sheet_bytes : ℕ
+sheet_bytes = 16384
 
-abbrev pub longestLine : ℕ
-longestLine = 136
+abbrev pub longest_line : ℕ
+longest_line = 136
 
-abbrev pub mostConstants : ℕ
-mostConstants = 32
+abbrev pub most_constants : ℕ
+most_constants = 32
 
-abbrev pub mostSymbols : ℕ
-mostSymbols = 16
+abbrev pub most_symbols : ℕ
+most_symbols = 16
 
-abbrev pub mostArguments : ℕ
-mostArguments = 3
+abbrev pub most_arguments : ℕ
+most_arguments = 3
 
 -- the variables of a rule are numbered from 1 to this
-abbrev pub mostVariables : ℕ
-mostVariables = 6
+abbrev pub most_variables : ℕ
+most_variables = 6
 
-abbrev pub mostRules : ℕ
-mostRules = 32
+abbrev pub most_rules : ℕ
+most_rules = 32
 
-abbrev pub mostHeads : ℕ
-mostHeads = 3
+abbrev pub most_heads : ℕ
+most_heads = 3
 
-abbrev pub mostBody : ℕ
-mostBody = 2
+abbrev pub most_body : ℕ
+most_body = 2
 
 -- 7/14: heads of a two-way rule that are kept, and heads that are rewritten
-abbrev pub mostKept : ℕ
-mostKept = 2
+abbrev pub most_kept : ℕ
+most_kept = 2
 
-abbrev pub mostRewritten : ℕ
-mostRewritten = 2
+abbrev pub most_rewritten : ℕ
+most_rewritten = 2
 
-abbrev pub mostClauses : ℕ
-mostClauses = 64
+abbrev pub most_clauses : ℕ
+most_clauses = 64
 
-abbrev pub mostLiterals : ℕ
-mostLiterals = 8
+abbrev pub most_literals : ℕ
+most_literals = 8
 
-abbrev pub mostGoals : ℕ
-mostGoals = 64
+abbrev pub most_goals : ℕ
+most_goals = 64
 
 -- ── "The search" ──
 
-abbrev pub mostAtoms : ℕ
-mostAtoms = 256
+abbrev pub most_atoms : ℕ
+most_atoms = 256
 
-abbrev pub mostLogged : ℕ
-mostLogged = 512
+abbrev pub most_logged : ℕ
+most_logged = 512
 
 -- ── question 1 ──
 
-abbrev pub roomBytes : ℕ
-roomBytes = 45056
+abbrev pub room_bytes : ℕ
+room_bytes = 45056
 
 -- ── document 02, 2/14 ──
 
 -- goal clauses and logged ones
-abbrev pub mostExported : ℕ
-mostExported = 576
+abbrev pub most_exported : ℕ
+most_exported = 576
 
 -- question 15
 abbrev pub export_bytes : ℕ

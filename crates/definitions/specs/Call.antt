@@ -2,11 +2,11 @@
 -- what a call comes to. Assumes nothing.
 use Rattle.std.specs.Prelude.{ℕ, ◌≤◌, ◌<◌, ◌≡◌, true, false, List, [], ◌∷◌, ◌++◌, leb, length, drop}
 use Rattle.std.proofs.Math.Option.{Option, none, some}
-use Rattle.definitions.specs.Bounds.{roomBytes}
+use Rattle.definitions.specs.Bounds.{room_bytes}
 use Rattle.definitions.specs.Words.{Problem}
 use Rattle.definitions.specs.Questions.{Reading, refused, accepted, read}
 use Rattle.definitions.specs.Search.{State, Outcome, more, done, search}
-use Rattle.definitions.specs.Listing.{answerNumber, listing, refusalLine}
+use Rattle.definitions.specs.Listing.{answer_number, listing, refusal_line}
 use Rattle.definitions.specs.declared.Verdict.{Verdict}
 use Rattle.definitions.specs.declared.Counts.{Counts}
 use Rattle.definitions.specs.declared.Answer.{Answer}
@@ -37,35 +37,35 @@ pub record Lending : Type 0 where
 -- the questions about a room of so many bytes, in their order
 -- 1: the lent room has at least 45,056 bytes
 unfoldable pub lendings : ℕ → List Lending
-lendings room = record { question = 1; lent = room; asked = roomBytes } ∷ []
+lendings room = record { question = 1; lent = room; asked = room_bytes } ∷ []
 
 -- the first of them that is answered no
-unfoldable pub firstShort : List Lending → Option ℕ
-firstShort [] = none
-firstShort (l ∷ ls) = elim (leb l.asked l.lent) [ true ↦ firstShort ls | false ↦ some l.question ]
+unfoldable pub first_short : List Lending → Option ℕ
+first_short [] = none
+first_short (l ∷ ls) = elim (leb l.asked l.lent) [ true ↦ first_short ls | false ↦ some l.question ]
 
 -- it ends the call with its number and line 0; otherwise the sheet is read
-unfoldable pub afterLending : List Lending → List ℕ → ℕ → Result
-afterLending ls sheet budget = elim (firstShort ls) [ none ↦ answered (read sheet) budget | some q ↦ refusal q 0 ]
+unfoldable pub after_lending : List Lending → List ℕ → ℕ → Result
+after_lending ls sheet budget = elim (first_short ls) [ none ↦ answered (read sheet) budget | some q ↦ refusal q 0 ]
 
 unfoldable pub result : List ℕ → ℕ → List ℕ → Result
-result sheet budget room = afterLending (lendings (length room)) sheet budget
+result sheet budget room = after_lending (lendings (length room)) sheet budget
 
 -- "which of the four it is and the counts of atoms, logged clauses, decisions and conflicts"
-abbrev pub recordOf : Verdict → State → Counts
-recordOf v s = record { verdict = v; atoms = length s.table; logged = length s.log; decisions = s.decisions; conflicts = s.conflicts }
+abbrev pub record_of : Verdict → State → Counts
+record_of v s = record { verdict = v; atoms = length s.table; logged = length s.log; decisions = s.decisions; conflicts = s.conflicts }
 
 -- what the call hands back
 unfoldable pub answer_of : Result → Answer
 answer_of (refusal q n) = Refused (record { number = q; line = n })
-answer_of (ended v s) = Answered (recordOf v s)
+answer_of (ended v s) = Answered (record_of v s)
 answer_of unended = Refused (record { number = 0; line = 0 })
 
 -- the listing; a refusal has none
-unfoldable pub listingOf : Result → List ℕ
-listingOf (refusal q n) = []
-listingOf (ended v s) = listing v s
-listingOf unended = []
+unfoldable pub listing_of : Result → List ℕ
+listing_of (refusal q n) = []
+listing_of (ended v s) = listing v s
+listing_of unended = []
 
 -- the listing stands at the front of the room, and the bytes behind it are those before
 unfoldable pub written : List ℕ → List ℕ → List ℕ
@@ -76,60 +76,60 @@ unfoldable pub call : List ℕ → ℕ → List ℕ → Answer
 call sheet budget room = answer_of (result sheet budget room)
 
 -- the second call: the front part of the room that it hands back
-unfoldable pub listedPart : List ℕ → ℕ → List ℕ → List ℕ
-listedPart sheet budget room = listingOf (result sheet budget room)
+unfoldable pub listed_part : List ℕ → ℕ → List ℕ → List ℕ
+listed_part sheet budget room = listing_of (result sheet budget room)
 
 -- the room after either call
-unfoldable pub roomAfter : List ℕ → ℕ → List ℕ → List ℕ
-roomAfter sheet budget room = written (listingOf (result sheet budget room)) room
+unfoldable pub room_after : List ℕ → ℕ → List ℕ → List ℕ
+room_after sheet budget room = written (listing_of (result sheet budget room)) room
 
 -- what the program prints: the line of a refusal, or what it makes of an answer
-unfoldable pub printedOf : (Result → List ℕ) → Result → List ℕ
-printedOf made (refusal q n) = refusalLine q n
-printedOf made (ended v s) = made (ended v s)
-printedOf made unended = made unended
+unfoldable pub printed_of : (Result → List ℕ) → Result → List ℕ
+printed_of made (refusal q n) = refusal_line q n
+printed_of made (ended v s) = made (ended v s)
+printed_of made unended = made unended
 
 -- document 01's program: the listing
 unfoldable pub printed : List ℕ → ℕ → List ℕ
-printed sheet budget = printedOf listingOf (answered (read sheet) budget)
+printed sheet budget = printed_of listing_of (answered (read sheet) budget)
 
 -- the same at the front of a lent room; nothing where a question about what is lent is answered no
-unfoldable pub printedPart : List ℕ → ℕ → List ℕ → List ℕ
-printedPart sheet budget room = elim (firstShort (lendings (length room))) [ none ↦ printed sheet budget | some q ↦ [] ]
+unfoldable pub printed_part : List ℕ → ℕ → List ℕ → List ℕ
+printed_part sheet budget room = elim (first_short (lendings (length room))) [ none ↦ printed sheet budget | some q ↦ [] ]
 
 -- this paper's number and values of each case: number and line, or the answer's number and the four counts
 unfoldable pub values : Answer → List ℕ
 values (Refused r) = r.number ∷ r.line ∷ []
-values (Answered c) = answerNumber c.verdict ∷ c.atoms ∷ c.logged ∷ c.decisions ∷ c.conflicts ∷ []
+values (Answered c) = answer_number c.verdict ∷ c.atoms ∷ c.logged ∷ c.decisions ∷ c.conflicts ∷ []
 
 -- the latter for a search that ended in a state
-abbrev pub answerValues : Verdict → State → List ℕ
-answerValues v s = answerNumber v ∷ length s.table ∷ length s.log ∷ s.decisions ∷ s.conflicts ∷ []
+abbrev pub answer_values : Verdict → State → List ℕ
+answer_values v s = answer_number v ∷ length s.table ∷ length s.log ∷ s.decisions ∷ s.conflicts ∷ []
 
 -- ── what a call comes to ──
 
 module _ (sheet : List ℕ) (budget : ℕ) (room : List ℕ) where
   -- "for a refusal the number and line", "an empty part for a refusal", "a refused call leaves all the room unchanged"
   pub record RefusedWith (question line : ℕ) : Type 0 where
-    pub handedBack : call sheet budget room ≡ Refused (record { number = question; line = line })
+    pub handed_back : call sheet budget room ≡ Refused (record { number = question; line = line })
     pub numbers : values (call sheet budget room) ≡ question ∷ line ∷ []
-    pub part : listedPart sheet budget room ≡ []
-    pub unchanged : roomAfter sheet budget room ≡ room
+    pub part : listed_part sheet budget room ≡ []
+    pub unchanged : room_after sheet budget room ≡ room
 
   -- "otherwise which of the four it is and the counts" of the search's last state; the second call hands back "the front part of the
   -- lent room that holds the listing" of that state: log, setting and counts; either "leaves the bytes behind the listing unchanged"
   pub record AnsweredWith (v : Verdict) (s : State) : Type 0 where
-    pub handedBack : call sheet budget room ≡ Answered (recordOf v s)
-    pub numbers : values (call sheet budget room) ≡ answerValues v s
-    pub part : listedPart sheet budget room ≡ listing v s
-    pub front : roomAfter sheet budget room ≡ listing v s ++ drop (length (listing v s)) room
+    pub handed_back : call sheet budget room ≡ Answered (record_of v s)
+    pub numbers : values (call sheet budget room) ≡ answer_values v s
+    pub part : listed_part sheet budget room ≡ listing v s
+    pub front : room_after sheet budget room ≡ listing v s ++ drop (length (listing v s)) room
 
   -- "the first no ends the call with that number and the line": a room that is too small is refused with 1 and line 0, bytes that are no
   -- proper sheet with the first question that fails and its line; every other call is answered with what the search comes to
   pub data Comes : Type 0 where
-    tooSmall : length room < roomBytes → RefusedWith 1 0 → Comes
-    improper : roomBytes ≤ length room → (question line : ℕ) → read sheet ≡ refused question line → RefusedWith question line → Comes
-    proper : roomBytes ≤ length room → (p : Problem) → read sheet ≡ accepted p → (v : Verdict) (s : State) → search p budget ≡ done v s
+    too_small : length room < room_bytes → RefusedWith 1 0 → Comes
+    improper : room_bytes ≤ length room → (question line : ℕ) → read sheet ≡ refused question line → RefusedWith question line → Comes
+    proper : room_bytes ≤ length room → (p : Problem) → read sheet ≡ accepted p → (v : Verdict) (s : State) → search p budget ≡ done v s
         → AnsweredWith v s → Comes
 
   -- "the answer is always the one that the search below comes to for that sheet and the call's budget"
@@ -144,11 +144,11 @@ module _ (sheet : List ℕ) (budget : ℕ) (room : List ℕ) where
 
 -- "for a refusal it prints one line of kind 9 with number and line"; otherwise what is made of the problem and of where its search ends
 pub data Prints (made : Problem → Verdict → State → List ℕ) (sheet : List ℕ) (budget : ℕ) (bytes : List ℕ) : Type 0 where
-  refusalPrinted : (question line : ℕ) → read sheet ≡ refused question line → bytes ≡ refusalLine question line → Prints made sheet budget bytes
-  answerPrinted : (p : Problem) → read sheet ≡ accepted p → (v : Verdict) (s : State) → search p budget ≡ done v s → bytes ≡ made p v s
+  refusal_printed : (question line : ℕ) → read sheet ≡ refused question line → bytes ≡ refusal_line question line → Prints made sheet budget bytes
+  answer_printed : (p : Problem) → read sheet ≡ accepted p → (v : Verdict) (s : State) → search p budget ≡ done v s → bytes ≡ made p v s
       → Prints made sheet budget bytes
 
 -- names every definition of this module, for a theorem that computes with all of them
-unfoldable pub Call·all : Unit {0}
-unfolding searched answered lendings firstShort afterLending result answer_of listingOf written call listedPart roomAfter printedOf printed printedPart values
-Call·all = tt
+unfoldable pub call_all : Unit {0}
+unfolding searched answered lendings first_short after_lending result answer_of listing_of written call listed_part room_after printed_of printed printed_part values
+call_all = tt

@@ -8,22 +8,22 @@ use Rattle.definitions.specs.Words.{Clause, Rule, Problem}
 use Rattle.definitions.specs.Instances.{Substitution, variables, substitutions}
 use Rattle.definitions.specs.Meaning.{Assignment, SatisfiesClause, SatisfiesFilling}
 use Rattle.definitions.specs.Sheet.{Number, plus}
-use Rattle.definitions.specs.Questions.{Asked, yes, readClause}
-use Rattle.definitions.specs.Dimacs.{Cnf, readCnf}
+use Rattle.definitions.specs.Questions.{Asked, yes, read_clause}
+use Rattle.definitions.specs.Dimacs.{Cnf, read_cnf}
 use Rattle.definitions.specs.Sheets.{Row}
 
 -- ── a logged clause, by its line ──
 
 -- the clause on a line of kind 6: behind the kind and the rule's number it stands as on a line of kind 4
-unfoldable pub clauseOn : Problem → Row → Asked Clause
-clauseOn p row = readClause p.constants p.arities (drop 2 row)
+unfoldable pub clause_on : Problem → Row → Asked Clause
+clause_on p row = read_clause p.constants p.arities (drop 2 row)
 
 -- "each logged clause must follow from one filling of the rule whose number stands on its line": the clause on the line, the rule whose
 -- number, counted from 1, is in the second column, and a filling of it, such that whatever satisfies the filling satisfies the clause. The
 -- other way may fail: of two body literals one is in the clause
 pub record Entailed (p : Problem) (row : Row) : Type 0 where
   pub clause : Clause
-  pub reads : clauseOn p row ≡ yes clause
+  pub reads : clause_on p row ≡ yes clause
   pub place : ℕ
   pub number : get_elem? row 1 ≡ some (plus (suc place))
   pub rule : Rule
@@ -51,10 +51,10 @@ SatisfiesNumberClauses v cs = (ns : List Number) → ns ∈ cs → SatisfiesNumb
 -- the text is read, and no assignment satisfies the clauses that are read back
 pub record Unsatisfiable (text : List ℕ) : Type 0 where
   pub back : Cnf
-  pub reads : readCnf text ≡ yes back
+  pub reads : read_cnf text ≡ yes back
   pub none : (v : NumberAssignment) → SatisfiesNumberClauses v back.clauses → ⊥
 
 -- names every definition of this module, for a theorem that computes with all of them
-unfoldable pub Carried·all : Unit {0}
-unfolding clauseOn
-Carried·all = tt
+unfoldable pub carried_all : Unit {0}
+unfolding clause_on
+carried_all = tt

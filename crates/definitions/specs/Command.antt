@@ -9,44 +9,44 @@ use Rattle.definitions.specs.declared.Order.{Order}
 use Rattle.definitions.specs.declared.Order.TheVariants.{Listing, Cnf, Usage}
 
 -- document 01: the program "uses budget 1,000,000"
-abbrev pub usualBudget : ℕ
-usualBudget = 1000000
+abbrev pub usual_budget : ℕ
+usual_budget = 1000000
 
 -- "any 32-bit unsigned number"
-abbrev pub largestBudget : ℕ
-largestBudget = 4294967295
+abbrev pub largest_budget : ℕ
+largest_budget = 4294967295
 
 -- two words are the same, byte for byte
-abbrev pub sameWord : List ℕ → List ℕ → Bool
-sameWord a b = same_args a b
+abbrev pub same_word : List ℕ → List ℕ → Bool
+same_word a b = same_args a b
 
 -- a number of 32 bits
 unfoldable pub in_range : Column → Numeral
-in_range (number n) = elim (leb n.size largestBudget) [ true ↦ Value n.size | false ↦ NoNumber ]
+in_range (number n) = elim (leb n.size largest_budget) [ true ↦ Value n.size | false ↦ NoNumber ]
 in_range nothing = NoNumber
 in_range fault = NoNumber
 
 -- the number that a word says: 0 alone, or a natural number as in a column; no sign, no leading zero
 unfoldable pub numeral : List ℕ → Numeral
-numeral w = elim (sameWord w (bytes "0")) [ true ↦ Value 0 | false ↦ in_range (natural false w) ]
+numeral w = elim (same_word w (bytes "0")) [ true ↦ Value 0 | false ↦ in_range (natural false w) ]
 
 -- what is printed, by the words behind the budget: without any the listing
-unfoldable pub printedBy : ℕ → List (List ℕ) → Order
-printedBy budget [] = Listing budget
-printedBy budget (w ∷ []) = elim (sameWord w (bytes "cnf")) [ true ↦ Cnf budget | false ↦ Usage ]
-printedBy budget (w ∷ v ∷ ws) = Usage
+unfoldable pub printed_by : ℕ → List (List ℕ) → Order
+printed_by budget [] = Listing budget
+printed_by budget (w ∷ []) = elim (same_word w (bytes "cnf")) [ true ↦ Cnf budget | false ↦ Usage ]
+printed_by budget (w ∷ v ∷ ws) = Usage
 
 -- by the words behind `budget`, of which the first is its number
 unfoldable pub budgeted : List (List ℕ) → Order
 budgeted [] = Usage
-budgeted (w ∷ ws) = elim (numeral w) [ Value budget ↦ printedBy budget ws | NoNumber ↦ Usage ]
+budgeted (w ∷ ws) = elim (numeral w) [ Value budget ↦ printed_by budget ws | NoNumber ↦ Usage ]
 
 -- by the words behind the command's name
 unfoldable pub order : List (List ℕ) → Order
-order [] = printedBy usualBudget []
-order (w ∷ ws) = elim (sameWord w (bytes "budget")) [ true ↦ budgeted ws | false ↦ printedBy usualBudget (w ∷ ws) ]
+order [] = printed_by usual_budget []
+order (w ∷ ws) = elim (same_word w (bytes "budget")) [ true ↦ budgeted ws | false ↦ printed_by usual_budget (w ∷ ws) ]
 
 -- names every definition of this module, for a theorem that computes with all of them
-unfoldable pub Command·all : Unit {0}
-unfolding in_range numeral printedBy budgeted order
-Command·all = tt
+unfoldable pub command_all : Unit {0}
+unfolding in_range numeral printed_by budgeted order
+command_all = tt

@@ -1,11 +1,11 @@
 -- The command's words by example. Assumes nothing.
 use Prim.Native.String.{String}
 use Rattle.std.specs.Prelude.{◌≡◌, refl, List, [], ◌∷◌, map}
-use Rattle.definitions.specs.Lists.{Lists·all}
-use Rattle.definitions.specs.Words.{Words·all}
-use Rattle.definitions.specs.Sheet.{Sheet·all}
-use Rattle.definitions.specs.Text.{bytes, Text·all}
-use Rattle.definitions.specs.Command.{order, Command·all}
+use Rattle.definitions.specs.Lists.{lists_all}
+use Rattle.definitions.specs.Words.{words_all}
+use Rattle.definitions.specs.Sheet.{sheet_all}
+use Rattle.definitions.specs.Text.{bytes, text_all}
+use Rattle.definitions.specs.Command.{order, command_all}
 use Rattle.definitions.specs.declared.Order.{Order}
 use Rattle.definitions.specs.declared.Order.TheVariants.{Listing, Cnf, Usage}
 
@@ -14,8 +14,8 @@ pub record CommandTrial : Type 0 where
   pub words : List String
   pub does : Order
 
-unfoldable pub commandTrials : List CommandTrial
-commandTrials =
+unfoldable pub command_trials : List CommandTrial
+command_trials =
     record { words = []; does = Listing 1000000 } ∷
     record { words = "cnf" ∷ []; does = Cnf 1000000 } ∷
     record { words = "budget" ∷ "0" ∷ []; does = Listing 0 } ∷
@@ -50,6 +50,6 @@ commandTrials =
     []
 
 -- each is done
-pub does : map (λ (t : CommandTrial). order (map bytes t.words)) commandTrials ≡ map (λ (t : CommandTrial). t.does) commandTrials
-unfolding commandTrials Text·all Lists·all Words·all Sheet·all Command·all
+pub does : map (λ (t : CommandTrial). order (map bytes t.words)) command_trials ≡ map (λ (t : CommandTrial). t.does) command_trials
+unfolding command_trials text_all lists_all words_all sheet_all command_all
 does = refl

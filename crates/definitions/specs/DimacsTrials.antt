@@ -1,17 +1,17 @@
 -- Document 02, 2/14: sheets with the text that is exported, and texts with what the reader makes of them. Assumes nothing.
 use Rattle.std.specs.Prelude.{ℕ, ◌≡◌, refl, List, [], ◌∷◌, map}
 use Prim.Native.String.{String}
-use Rattle.definitions.specs.Lists.{Lists·all}
-use Rattle.definitions.specs.Words.{Words·all}
-use Rattle.definitions.specs.Instances.{Instances·all}
-use Rattle.definitions.specs.Sheet.{plus, minus, Sheet·all}
-use Rattle.definitions.specs.Questions.{Asked, no, yes, Questions·all}
-use Rattle.definitions.specs.Search.{Search·all}
-use Rattle.definitions.specs.Listing.{Listing·all}
-use Rattle.definitions.specs.Text.{bytes, text, Text·all}
-use Rattle.definitions.specs.Dimacs.{Cnf, readCnf, Dimacs·all}
-use Rattle.definitions.specs.Call.{Call·all}
-use Rattle.definitions.specs.Export.{printedCnf, Export·all}
+use Rattle.definitions.specs.Lists.{lists_all}
+use Rattle.definitions.specs.Words.{words_all}
+use Rattle.definitions.specs.Instances.{instances_all}
+use Rattle.definitions.specs.Sheet.{plus, minus, sheet_all}
+use Rattle.definitions.specs.Questions.{Asked, no, yes, questions_all}
+use Rattle.definitions.specs.Search.{search_all}
+use Rattle.definitions.specs.Listing.{listing_all}
+use Rattle.definitions.specs.Text.{bytes, text, text_all}
+use Rattle.definitions.specs.Dimacs.{Cnf, read_cnf, dimacs_all}
+use Rattle.definitions.specs.Call.{call_all}
+use Rattle.definitions.specs.Export.{printed_cnf, export_all}
 
 -- ── what is written ──
 
@@ -22,13 +22,13 @@ pub record ExportTrial : Type 0 where
   pub lines : List String
 
 unfoldable pub exported : ExportTrial → List ℕ
-exported t = printedCnf (text t.sheet) t.budget
+exported t = printed_cnf (text t.sheet) t.budget
 
 unfoldable pub wanted : ExportTrial → List ℕ
 wanted t = text t.lines
 
-unfoldable pub exportTrials : List ExportTrial
-exportTrials =
+unfoldable pub export_trials : List ExportTrial
+export_trials =
     -- document 01's sheet: its goal clauses, and one logged clause over the table's numbers
     record {
       sheet =
@@ -74,8 +74,8 @@ exportTrials =
     []
 
 -- each sheet gives its text
-pub exports : map exported exportTrials ≡ map wanted exportTrials
-unfolding exportTrials exported wanted Text·all Lists·all Words·all Instances·all Sheet·all Questions·all Search·all Listing·all Dimacs·all Call·all Export·all
+pub exports : map exported export_trials ≡ map wanted export_trials
+unfolding export_trials exported wanted text_all lists_all words_all instances_all sheet_all questions_all search_all listing_all dimacs_all call_all export_all
 exports = refl
 
 -- ── what is read ──
@@ -84,8 +84,8 @@ pub record ReadTrial : Type 0 where
   pub text : List ℕ
   pub reads : Asked Cnf
 
-unfoldable pub readTrials : List ReadTrial
-readTrials =
+unfoldable pub read_trials : List ReadTrial
+read_trials =
     record { text = text ("p cnf 0 0" ∷ []); reads = yes (record { atoms = 0; clauses = [] }) } ∷
     record { text = text ("p cnf 0 1" ∷ "0" ∷ []); reads = yes (record { atoms = 0; clauses = [] ∷ [] }) } ∷
     record {
@@ -130,6 +130,6 @@ readTrials =
     []
 
 -- each text is read so
-pub reads : map (λ (t : ReadTrial). readCnf t.text) readTrials ≡ map (λ (t : ReadTrial). t.reads) readTrials
-unfolding readTrials Text·all Lists·all Sheet·all Questions·all Listing·all Dimacs·all
+pub reads : map (λ (t : ReadTrial). read_cnf t.text) read_trials ≡ map (λ (t : ReadTrial). t.reads) read_trials
+unfolding read_trials text_all lists_all sheet_all questions_all listing_all dimacs_all
 reads = refl

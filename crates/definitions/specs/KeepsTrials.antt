@@ -3,11 +3,11 @@
 use Rattle.std.specs.Prelude.{ℕ, ◌≤◌, ◌≡◌, refl, List, [], ◌∷◌, ◌++◌, get_or}
 use Rattle.std.proofs.Common.{ap, inl, inr, arith}
 use mathlib.Core.List.Memᴰ
-use Rattle.definitions.specs.Lists.{Lists·all}
-use Rattle.definitions.specs.Sheet.{plus, Sheet·all}
-use Rattle.definitions.specs.Questions.{Questions·all}
-use Rattle.definitions.specs.Sheets.{Row, Keeps, Sheets·all}
-use Rattle.definitions.specs.Text.{text, Text·all}
+use Rattle.definitions.specs.Lists.{lists_all}
+use Rattle.definitions.specs.Sheet.{plus, sheet_all}
+use Rattle.definitions.specs.Questions.{questions_all}
+use Rattle.definitions.specs.Sheets.{Row, Keeps, sheets_all}
+use Rattle.definitions.specs.Text.{text, text_all}
 
 -- q(X) gives p, twice, and between them q(X) <=> p; p; not q(1). Symbol 3 stands in no rule and no clause
 unfoldable pub first : List ℕ
@@ -28,7 +28,7 @@ lacking =
     ++ text ("   4   1   1" ∷ "   4   1  -2   2" ∷ [])
 
 pub forgotten : Keeps first lacking → ⊥
-unfolding first lacking size_at Text·all Lists·all Sheet·all Questions·all Sheets·all
+unfolding first lacking size_at text_all lists_all sheet_all questions_all sheets_all
 forgotten k =
     elim (Memᴰ.cases_cons (k.clauses _ (Memᴰ.tail (Memᴰ.head refl)))) [
       | inl e ↦ let z : ◌≡◌ {A = ℕ} 2 1 = ap (size_at 2) e in omega arith
@@ -39,14 +39,14 @@ forgotten k =
     ]
 
 -- the rule has another variable
-unfoldable pub otherRule : List ℕ
-otherRule =
+unfoldable pub other_rule : List ℕ
+other_rule =
     text ("   1   2" ∷ "   2   0" ∷ "   2   1" ∷ "   2   0" ∷ [])
     ++ text ("   3   1   1   2   2   1" ∷ "   8   0   1   1   2   1   1" ∷ [])
     ++ text ("   4   1   1" ∷ "   4   1  -2   1" ∷ [])
 
-pub forgotten-rule : Keeps first otherRule → ⊥
-unfolding first otherRule size_at Text·all Lists·all Sheet·all Questions·all Sheets·all
+pub forgotten-rule : Keeps first other_rule → ⊥
+unfolding first other_rule size_at text_all lists_all sheet_all questions_all sheets_all
 forgotten-rule k =
     elim (Memᴰ.cases_cons (k.rules _ (Memᴰ.head refl))) [
       | inl e ↦ let z : ◌≡◌ {A = ℕ} 1 2 = ap (size_at 4) e in omega arith
@@ -54,36 +54,36 @@ forgotten-rule k =
     ]
 
 -- q(X) <=> p has become a rule forwards alone, which the first sheet has too
-unfoldable pub forwardAlone : List ℕ
-forwardAlone =
+unfoldable pub forward_alone : List ℕ
+forward_alone =
     text ("   1   2" ∷ "   2   0" ∷ "   2   1" ∷ "   2   0" ∷ [])
     ++ text ("   3   1   1   2   1   1" ∷ "   3   1   1   2   1   1" ∷ [])
     ++ text ("   4   1   1" ∷ "   4   1  -2   1" ∷ [])
 
-pub forgotten-two-way : Keeps first forwardAlone → ⊥
-unfolding first forwardAlone Text·all Lists·all Sheet·all Questions·all Sheets·all
-forgotten-two-way k = Memᴰ.not-nil (k.twoWays _ (Memᴰ.head refl))
+pub forgotten-two-way : Keeps first forward_alone → ⊥
+unfolding first forward_alone text_all lists_all sheet_all questions_all sheets_all
+forgotten-two-way k = Memᴰ.not-nil (k.two_ways _ (Memᴰ.head refl))
 
 -- symbol 3 has an argument
-unfoldable pub otherArity : List ℕ
-otherArity =
+unfoldable pub other_arity : List ℕ
+other_arity =
     text ("   1   2" ∷ "   2   0" ∷ "   2   1" ∷ "   2   1" ∷ [])
     ++ text ("   3   1   1   2   1   1" ∷ "   8   0   1   1   2   1   1" ∷ "   3   1   1   2   1   1" ∷ [])
     ++ text ("   4   1   1" ∷ "   4   1  -2   1" ∷ [])
 
-pub forgotten-arity : Keeps first otherArity → ⊥
-unfolding first otherArity size_at Text·all Lists·all Sheet·all Questions·all Sheets·all
+pub forgotten-arity : Keeps first other_arity → ⊥
+unfolding first other_arity size_at text_all lists_all sheet_all questions_all sheets_all
 forgotten-arity k = let z : ◌≡◌ {A = ℕ} 1 0 = ap (λ (l : List Row). size_at 1 (get_or l 2 [])) k.symbols.1 in omega arith
 
 -- one constant less
-unfoldable pub fewerConstants : List ℕ
-fewerConstants =
+unfoldable pub fewer_constants : List ℕ
+fewer_constants =
     text ("   1   1" ∷ "   2   0" ∷ "   2   1" ∷ "   2   0" ∷ [])
     ++ text ("   3   1   1   2   1   1" ∷ "   8   0   1   1   2   1   1" ∷ "   3   1   1   2   1   1" ∷ [])
     ++ text ("   4   1   1" ∷ "   4   1  -2   1" ∷ [])
 
-pub forgotten-constant : Keeps first fewerConstants → ⊥
-unfolding first fewerConstants Text·all Lists·all Sheet·all Questions·all Sheets·all
+pub forgotten-constant : Keeps first fewer_constants → ⊥
+unfolding first fewer_constants text_all lists_all sheet_all questions_all sheets_all
 forgotten-constant k = let z : 2 ≤ 1 = k.constants in omega arith
 
 -- one constant and one symbol more; the rule once, behind another; the two-way rule behind another; the clauses in another order, with a
@@ -95,7 +95,7 @@ second =
     ++ text ("   4   1      -2   1" ∷ "   4   1  -2   2" ∷ "       4   1   1    " ∷ [])
 
 pub kept : Keeps first second
-unfolding first second Text·all Lists·all Sheet·all Questions·all Sheets·all
+unfolding first second text_all lists_all sheet_all questions_all sheets_all
 kept =
     record {
       constants = omega arith;
@@ -104,7 +104,7 @@ kept =
         | inl e ↦ Memᴰ.tail (Memᴰ.head e)
         | inr n ↦ elim (Memᴰ.cases_cons n) [ inl e ↦ Memᴰ.tail (Memᴰ.head e) | inr o ↦ absurd (Memᴰ.not-nil o) ]
       ];
-      twoWays = λ r m. elim (Memᴰ.cases_cons m) [ inl e ↦ Memᴰ.tail (Memᴰ.head e) | inr o ↦ absurd (Memᴰ.not-nil o) ];
+      two_ways = λ r m. elim (Memᴰ.cases_cons m) [ inl e ↦ Memᴰ.tail (Memᴰ.head e) | inr o ↦ absurd (Memᴰ.not-nil o) ];
       clauses = λ r m. elim (Memᴰ.cases_cons m) [
         | inl e ↦ Memᴰ.tail (Memᴰ.tail (Memᴰ.head e))
         | inr n ↦ elim (Memᴰ.cases_cons n) [ inl e ↦ Memᴰ.head e | inr o ↦ absurd (Memᴰ.not-nil o) ]

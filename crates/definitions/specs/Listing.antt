@@ -3,7 +3,7 @@ use Rattle.std.specs.Prelude.{ℕ, zero, suc, ◌+◌, ◌-◌, ◌/◌, ◌%◌
 use Rattle.definitions.specs.Lists.{joined, filter}
 use Rattle.definitions.specs.Words.{Atom, Literal, negate, plain}
 use Rattle.definitions.specs.Sheet.{Number, plus}
-use Rattle.definitions.specs.Search.{State, Logged, clauseOf, isTrue}
+use Rattle.definitions.specs.Search.{State, Logged, clause_of, is_true}
 use Rattle.definitions.specs.declared.Verdict.{Verdict}
 use Rattle.definitions.specs.declared.Verdict.TheVariants.{Unsat, Unknown, Spent, Full}
 
@@ -18,19 +18,19 @@ decimals zero n = []
 decimals (suc w) n = elim (ltb n 10) [ true ↦ (48 + n) ∷ [] | false ↦ decimals w (n / 10) ++ ((48 + n % 10) ∷ []) ]
 
 -- with its sign, byte 45
-unfoldable pub signedDecimals : ℕ → Number → List ℕ
-signedDecimals w n = elim n.negative [ true ↦ 45 ∷ decimals w n.size | false ↦ decimals w n.size ]
+unfoldable pub signed_decimals : ℕ → Number → List ℕ
+signed_decimals w n = elim n.negative [ true ↦ 45 ∷ decimals w n.size | false ↦ decimals w n.size ]
 
 -- right-justified with blanks, byte 32
-unfoldable pub rightJustified : ℕ → List ℕ → List ℕ
-rightJustified w bytes = replicate (w - length bytes) 32 ++ bytes
+unfoldable pub right_justified : ℕ → List ℕ → List ℕ
+right_justified w bytes = replicate (w - length bytes) 32 ++ bytes
 
-unfoldable pub fieldBytes : Field → List ℕ
-fieldBytes f = rightJustified f.width (signedDecimals f.width f.number)
+unfoldable pub field_bytes : Field → List ℕ
+field_bytes f = right_justified f.width (signed_decimals f.width f.number)
 
 -- the columns, then LF
-unfoldable pub lineBytes : List Field → List ℕ
-lineBytes fs = joined fieldBytes fs ++ (10 ∷ [])
+unfoldable pub line_bytes : List Field → List ℕ
+line_bytes fs = joined field_bytes fs ++ (10 ∷ [])
 
 unfoldable pub narrow : Number → Field
 narrow n = record { width = 4; number = n }
@@ -39,55 +39,55 @@ unfoldable pub wide : ℕ → Field
 wide n = record { width = 12; number = plus n }
 
 -- this paper's number for each answer
-unfoldable pub answerNumber : Verdict → ℕ
-answerNumber Unsat = 0
-answerNumber Unknown = 1
-answerNumber Spent = 2
-answerNumber Full = 3
+unfoldable pub answer_number : Verdict → ℕ
+answer_number Unsat = 0
+answer_number Unknown = 1
+answer_number Spent = 2
+answer_number Full = 3
 
 -- kind 5: answer, atoms in the table, logged clauses; then decisions and conflicts in wide columns
-unfoldable pub countLine : Verdict → State → List Field
-countLine v s =
-    map narrow (plus 5 ∷ plus (answerNumber v) ∷ plus (length s.table) ∷ plus (length s.log) ∷ [])
+unfoldable pub count_line : Verdict → State → List Field
+count_line v s =
+    map narrow (plus 5 ∷ plus (answer_number v) ∷ plus (length s.table) ∷ plus (length s.log) ∷ [])
     ++ (wide s.decisions ∷ wide s.conflicts ∷ [])
 
 -- a literal: its symbol, negative when negated, then its constants
-unfoldable pub literalNumbers : Literal → List Number
-literalNumbers l = record { negative = not l.positive; size = l.atom.symbol } ∷ map plus l.atom.args
+unfoldable pub literal_numbers : Literal → List Number
+literal_numbers l = record { negative = not l.positive; size = l.atom.symbol } ∷ map plus l.atom.args
 
 -- kind 6: rule number, literal count, literals
-unfoldable pub loggedRow : Logged → List Number
-loggedRow g = plus 6 ∷ plus g.instance.rule ∷ plus (length (clauseOf g)) ∷ joined literalNumbers (clauseOf g)
+unfoldable pub logged_row : Logged → List Number
+logged_row g = plus 6 ∷ plus g.instance.rule ∷ plus (length (clause_of g)) ∷ joined literal_numbers (clause_of g)
 
-unfoldable pub loggedLine : Logged → List Field
-loggedLine g = map narrow (loggedRow g)
+unfoldable pub logged_line : Logged → List Field
+logged_line g = map narrow (logged_row g)
 
 -- kind 7: the literal of a set atom
-unfoldable pub setLine : Literal → List Field
-setLine l = map narrow (plus 7 ∷ literalNumbers l)
+unfoldable pub set_line : Literal → List Field
+set_line l = map narrow (plus 7 ∷ literal_numbers l)
 
 -- the literal of the atom that is true, if the atom is set
-unfoldable pub setLiteral : State → Atom → List Literal
-setLiteral s a = filter (isTrue s.trail) (plain a ∷ negate (plain a) ∷ [])
+unfoldable pub set_literal : State → Atom → List Literal
+set_literal s a = filter (is_true s.trail) (plain a ∷ negate (plain a) ∷ [])
 
 -- for UNKNOWN only: the set atoms, in table order
 unfoldable pub settings : Verdict → State → List Literal
 settings Unsat s = []
-settings Unknown s = joined (setLiteral s) s.table
+settings Unknown s = joined (set_literal s) s.table
 settings Spent s = []
 settings Full s = []
 
-unfoldable pub listingLines : Verdict → State → List (List Field)
-listingLines v s = countLine v s ∷ map loggedLine s.log ++ map setLine (settings v s)
+unfoldable pub listing_lines : Verdict → State → List (List Field)
+listing_lines v s = count_line v s ∷ map logged_line s.log ++ map set_line (settings v s)
 
 unfoldable pub listing : Verdict → State → List ℕ
-listing v s = joined lineBytes (listingLines v s)
+listing v s = joined line_bytes (listing_lines v s)
 
 -- what the program prints for a refusal, kind 9: the question's number, and the line
-unfoldable pub refusalLine : ℕ → ℕ → List ℕ
-refusalLine question line = lineBytes (map narrow (plus 9 ∷ plus question ∷ plus line ∷ []))
+unfoldable pub refusal_line : ℕ → ℕ → List ℕ
+refusal_line question line = line_bytes (map narrow (plus 9 ∷ plus question ∷ plus line ∷ []))
 
 -- names every definition of this module, for a theorem that computes with all of them
-unfoldable pub Listing·all : Unit {0}
-unfolding decimals signedDecimals rightJustified fieldBytes lineBytes narrow wide answerNumber countLine literalNumbers loggedRow loggedLine setLine setLiteral settings listingLines listing refusalLine
-Listing·all = tt
+unfoldable pub listing_all : Unit {0}
+unfolding decimals signed_decimals right_justified field_bytes line_bytes narrow wide answer_number count_line literal_numbers logged_row logged_line set_line set_literal settings listing_lines listing refusal_line
+listing_all = tt

@@ -54,9 +54,9 @@ module _ {A : Type 0} where
 
 module _ {A B : Type 0} where
   -- what the function gives at the first element where it gives something
-  unfoldable pub firstSome : (A → Option B) → List A → Option B
-  firstSome f [] = none
-  firstSome f (x ∷ xs) = elim (f x) [ none ↦ firstSome f xs | some b ↦ some b ]
+  unfoldable pub first_some : (A → Option B) → List A → Option B
+  first_some f [] = none
+  first_some f (x ∷ xs) = elim (f x) [ none ↦ first_some f xs | some b ↦ some b ]
 
   -- the lists that the function gives, joined in order
   unfoldable pub joined : (A → List B) → List A → List B
@@ -69,6 +69,6 @@ up_from first zero = []
 up_from first (suc n) = first ∷ up_from (suc first) n
 
 -- names every definition of this module, for a theorem that computes with all of them
-unfoldable pub Lists·all : Unit {0}
-unfolding is_empty any all filter find distinct added list_of firstSome joined up_from
-Lists·all = tt
+unfoldable pub lists_all : Unit {0}
+unfolding is_empty any all filter find distinct added list_of first_some joined up_from
+lists_all = tt

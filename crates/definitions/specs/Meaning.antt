@@ -1,7 +1,7 @@
 -- Document 01, "Words": choices, their closure and its clashes; assignments that satisfy a problem, with document 02, 7/14. Assumes nothing.
 use Rattle.std.specs.Prelude.{ℕ, ◌≡◌, ◌⊎◌, Bool, true, false, List, [], ◌∷◌, ◌++◌}
 use Rattle.definitions.specs.Lists.{◌∈◌}
-use Rattle.definitions.specs.Words.{Atom, Literal, negate, Clause, Pattern, Rule, TwoWay, forward, RuleLine, oneWay, twoWay, Problem, goalAtoms}
+use Rattle.definitions.specs.Words.{Atom, Literal, negate, Clause, Pattern, Rule, TwoWay, forward, RuleLine, one_way, two_way, Problem, goal_atoms}
 use Rattle.definitions.specs.Instances.{Substitution, ground, variables, substitutions, Instance, Task}
 
 -- true or false for every atom
@@ -19,19 +19,19 @@ Choice = Assignment
 module _ (k : Task) (σ : Choice) where
   -- "closure": the least set of literals that holds the choice and, with all head literals of an instance, its body
   pub data Closure : Literal → Type 0 where
-    chosen : {l : Literal} → l.atom ∈ goalAtoms k.clauses → Makes σ l → Closure l
+    chosen : {l : Literal} → l.atom ∈ goal_atoms k.clauses → Makes σ l → Closure l
     derived : {l : Literal} (i : Instance) → i ∈ k.instances → ((h : Literal) → h ∈ i.heads → Closure h) → l ∈ i.body → Closure l
 
   -- "clash": an atom with both signs in the closure, or a false body whose heads are all there
   pub data Clash : Type 0 where
-    bothSigns : (l : Literal) → Closure l → Closure (negate l) → Clash
-    falseBody : (i : Instance) → i ∈ k.instances → ((h : Literal) → h ∈ i.heads → Closure h) → i.body ≡ [] → Clash
+    both_signs : (l : Literal) → Closure l → Closure (negate l) → Clash
+    false_body : (i : Instance) → i ∈ k.instances → ((h : Literal) → h ∈ i.heads → Closure h) → i.body ≡ [] → Clash
 
   -- the choice breaks a goal clause: every literal of it is false
   pub record Breaks : Type 0 where
     pub clause : Clause
     pub inside : clause ∈ k.clauses
-    pub allFalse : (l : Literal) → l ∈ clause → Makes σ (negate l)
+    pub all_false : (l : Literal) → l ∈ clause → Makes σ (negate l)
 
   -- the choice does one of the two
   abbrev pub Fails : Type 0
@@ -42,7 +42,7 @@ pub record Earlier (k : Task) (τ σ : Choice) : Type 0 where
   pub before : List Atom
   pub at : Atom
   pub after : List Atom
-  pub split : goalAtoms k.clauses ≡ before ++ (at ∷ after)
+  pub split : goal_atoms k.clauses ≡ before ++ (at ∷ after)
   pub alike : (a : Atom) → a ∈ before → τ a ≡ σ a
   pub earlier : τ at ≡ true
   pub later : σ at ≡ false
@@ -59,8 +59,8 @@ SatisfiesClauses v cs = (c : Clause) → c ∈ cs → SatisfiesClause v c
 
 -- and a filling of a rule if some head literal is false, or the body isn't empty and all its literals are true
 pub data SatisfiesFilling (v : Assignment) (r : Rule) (f : Substitution) : Type 0 where
-  headFalse : (p : Pattern) → p ∈ r.heads → Makes v (negate (ground f p)) → SatisfiesFilling v r f
-  bodyTrue : (r.body ≡ [] → ⊥) → ((p : Pattern) → p ∈ r.body → Makes v (ground f p)) → SatisfiesFilling v r f
+  head_false : (p : Pattern) → p ∈ r.heads → Makes v (negate (ground f p)) → SatisfiesFilling v r f
+  body_true : (r.body ≡ [] → ⊥) → ((p : Pattern) → p ∈ r.body → Makes v (ground f p)) → SatisfiesFilling v r f
 
 -- literals of a rule that all hold in a filling
 abbrev pub AllHold : Assignment → Substitution → List Pattern → Type 0
@@ -83,10 +83,10 @@ SatisfiesRule v n r = (f : Substitution) → f ∈ substitutions n (variables r)
 -- what is asked of an assignment for a line: that every filling of its rule is satisfied, or that the two-way rule holds as an equivalence in
 -- every filling
 abbrev pub SatisfiesLine : Assignment → ℕ → RuleLine → Type 0
-SatisfiesLine v n (oneWay r) = SatisfiesRule v n r
-SatisfiesLine v n (twoWay t) = (f : Substitution) → f ∈ substitutions n (variables (forward t)) → Equivalence v t f
+SatisfiesLine v n (one_way r) = SatisfiesRule v n r
+SatisfiesLine v n (two_way t) = (f : Substitution) → f ∈ substitutions n (variables (forward t)) → Equivalence v t f
 
 -- it satisfies all clauses of a problem and every filling of all its rules, two-way rules as equivalences
 pub record Satisfies (v : Assignment) (p : Problem) : Type 0 where
   pub clauses : SatisfiesClauses v p.clauses
-  pub lines : (l : RuleLine) → l ∈ p.ruleLines → SatisfiesLine v p.constants l
+  pub lines : (l : RuleLine) → l ∈ p.rule_lines → SatisfiesLine v p.constants l

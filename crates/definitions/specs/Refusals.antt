@@ -1,12 +1,12 @@
 -- Document 01, "Questions asked of a call": sheets that are refused, by question, and accepted ones beside them. Assumes nothing.
 use Rattle.std.specs.Prelude.{ℕ, ◌≡◌, refl, List, [], ◌∷◌, ◌++◌, map, replicate}
 use Prim.Native.String.{String}
-use Rattle.definitions.specs.Lists.{joined, Lists·all}
-use Rattle.definitions.specs.Words.{Words·all}
-use Rattle.definitions.specs.Instances.{Instances·all}
-use Rattle.definitions.specs.Sheet.{Sheet·all}
-use Rattle.definitions.specs.Questions.{Reading, refused, accepted, read, Questions·all}
-use Rattle.definitions.specs.Text.{bytes, text, Text·all}
+use Rattle.definitions.specs.Lists.{joined, lists_all}
+use Rattle.definitions.specs.Words.{words_all}
+use Rattle.definitions.specs.Instances.{instances_all}
+use Rattle.definitions.specs.Sheet.{sheet_all}
+use Rattle.definitions.specs.Questions.{Reading, refused, accepted, read, questions_all}
+use Rattle.definitions.specs.Text.{bytes, text, text_all}
 
 -- a sheet, with the first question that is answered no and its line; 0 and 0 if it is accepted
 pub record SheetTrial : Type 0 where
@@ -14,12 +14,12 @@ pub record SheetTrial : Type 0 where
   pub question : ℕ
   pub line : ℕ
 
-unfoldable pub numbersOf : Reading → List ℕ
-numbersOf (refused q n) = q ∷ n ∷ []
-numbersOf (accepted p) = 0 ∷ 0 ∷ []
+unfoldable pub numbers_of : Reading → List ℕ
+numbers_of (refused q n) = q ∷ n ∷ []
+numbers_of (accepted p) = 0 ∷ 0 ∷ []
 
 unfoldable pub found : SheetTrial → List ℕ
-found t = numbersOf (read t.sheet)
+found t = numbers_of (read t.sheet)
 
 unfoldable pub claimed : SheetTrial → List ℕ
 claimed t = t.question ∷ t.line ∷ []
@@ -29,16 +29,16 @@ unfoldable pub declared : List String
 declared = "   1   2" ∷ "   2   0" ∷ "   2   1" ∷ []
 
 -- four lines: symbol 3 has two arguments
-unfoldable pub withPairs : List String
-withPairs = declared ++ ("   2   2" ∷ [])
+unfoldable pub with_pairs : List String
+with_pairs = declared ++ ("   2   2" ∷ [])
 
 -- a clause of 136 bytes
 unfoldable pub longest : List ℕ
 longest = bytes "   4   8" ++ joined bytes (replicate 8 "   1   1   1   1")
 
 -- twelve lines with 64 goal atoms: symbols 1 and 2 at each of 32 constants; symbol 3 without arguments stands in none
-unfoldable pub sixtyFour : List String
-sixtyFour =
+unfoldable pub sixty_four : List String
+sixty_four =
     "   1  32" ∷
     "   2   1" ∷
     "   2   1" ∷
@@ -199,7 +199,7 @@ sheets =
     record { sheet = text (declared ++ ("   3   1   0   2   0" ∷ [])); question = 10; line = 4 } ∷
     record { sheet = text (declared ++ ("   3   1   0   2   7" ∷ [])); question = 10; line = 4 } ∷
     record { sheet = text (declared ++ ("   3   1   0   2  -3" ∷ [])); question = 10; line = 4 } ∷
-    record { sheet = text (withPairs ++ ("   3   2   1   2   6   3  -2   6  -2   6" ∷ [])); question = 0; line = 0 } ∷
+    record { sheet = text (with_pairs ++ ("   3   2   1   2   6   3  -2   6  -2   6" ∷ [])); question = 0; line = 0 } ∷
     -- each column is present
     record { sheet = text (declared ++ ("   3   1   0" ∷ [])); question = 10; line = 4 } ∷
     record { sheet = text (declared ++ ("   3   1   0   2" ∷ [])); question = 10; line = 4 } ∷
@@ -222,33 +222,33 @@ sheets =
     record { sheet = text (declared ++ ("   3   1   1   1   2   1" ∷ [])); question = 12; line = 4 } ∷
     record { sheet = text (declared ++ ("   3   1   1   2   1   2   2" ∷ [])); question = 12; line = 4 } ∷
     record { sheet = text (declared ++ ("   3   1   2   2   1   2   1  -2   2" ∷ [])); question = 12; line = 4 } ∷
-    record { sheet = text (withPairs ++ ("   3   2   1   2   1   3   1   2   2   2" ∷ [])); question = 0; line = 0 } ∷
+    record { sheet = text (with_pairs ++ ("   3   2   1   2   1   3   1   2   2   2" ∷ [])); question = 0; line = 0 } ∷
     record { sheet = text (declared ++ ("   3   1   1   1   2  -2" ∷ [])); question = 0; line = 0 } ∷
     -- 14: of two heads each shares a variable with the other, whatever their signs; a shared constant is none
-    record { sheet = text (withPairs ++ ("   3   2   0   2   1   2   2" ∷ [])); question = 14; line = 5 } ∷
-    record { sheet = text (withPairs ++ ("   3   2   0   2   1   2   1" ∷ [])); question = 0; line = 0 } ∷
-    record { sheet = text (withPairs ++ ("   3   2   0  -2   6   3   1   6" ∷ [])); question = 0; line = 0 } ∷
-    record { sheet = text (withPairs ++ ("   3   2   0   2  -1   2  -1" ∷ [])); question = 14; line = 5 } ∷
-    record { sheet = text (withPairs ++ ("   3   2   0   3   1  -1   3   2  -1" ∷ [])); question = 14; line = 5 } ∷
+    record { sheet = text (with_pairs ++ ("   3   2   0   2   1   2   2" ∷ [])); question = 14; line = 5 } ∷
+    record { sheet = text (with_pairs ++ ("   3   2   0   2   1   2   1" ∷ [])); question = 0; line = 0 } ∷
+    record { sheet = text (with_pairs ++ ("   3   2   0  -2   6   3   1   6" ∷ [])); question = 0; line = 0 } ∷
+    record { sheet = text (with_pairs ++ ("   3   2   0   2  -1   2  -1" ∷ [])); question = 14; line = 5 } ∷
+    record { sheet = text (with_pairs ++ ("   3   2   0   3   1  -1   3   2  -1" ∷ [])); question = 14; line = 5 } ∷
     -- a head without variables may only stand alone
-    record { sheet = text (withPairs ++ ("   3   1   0   1" ∷ "   3   1   0   3  -1  -2" ∷ [])); question = 0; line = 0 } ∷
-    record { sheet = text (withPairs ++ ("   3   2   0   1   1" ∷ [])); question = 14; line = 5 } ∷
-    record { sheet = text (withPairs ++ ("   3   2   0   1   2   1" ∷ [])); question = 14; line = 5 } ∷
-    record { sheet = text (withPairs ++ ("   3   2   0   2   1   1" ∷ [])); question = 14; line = 5 } ∷
+    record { sheet = text (with_pairs ++ ("   3   1   0   1" ∷ "   3   1   0   3  -1  -2" ∷ [])); question = 0; line = 0 } ∷
+    record { sheet = text (with_pairs ++ ("   3   2   0   1   1" ∷ [])); question = 14; line = 5 } ∷
+    record { sheet = text (with_pairs ++ ("   3   2   0   1   2   1" ∷ [])); question = 14; line = 5 } ∷
+    record { sheet = text (with_pairs ++ ("   3   2   0   2   1   1" ∷ [])); question = 14; line = 5 } ∷
     -- of three heads one is apart
-    record { sheet = text (withPairs ++ ("   3   3   0   2   1   2   2   2   2" ∷ [])); question = 14; line = 5 } ∷
-    record { sheet = text (withPairs ++ ("   3   3   0   2   2   2   1   2   2" ∷ [])); question = 14; line = 5 } ∷
-    record { sheet = text (withPairs ++ ("   3   3   0   2   2   2   2   2   1" ∷ [])); question = 14; line = 5 } ∷
-    record { sheet = text (withPairs ++ ("   3   3   0   2   1   2   1   1" ∷ [])); question = 14; line = 5 } ∷
+    record { sheet = text (with_pairs ++ ("   3   3   0   2   1   2   2   2   2" ∷ [])); question = 14; line = 5 } ∷
+    record { sheet = text (with_pairs ++ ("   3   3   0   2   2   2   1   2   2" ∷ [])); question = 14; line = 5 } ∷
+    record { sheet = text (with_pairs ++ ("   3   3   0   2   2   2   2   2   1" ∷ [])); question = 14; line = 5 } ∷
+    record { sheet = text (with_pairs ++ ("   3   3   0   2   1   2   1   1" ∷ [])); question = 14; line = 5 } ∷
     -- a chain: 1-2 and 2-3, 1-3 and 3-2, 2-1 and 1-3
-    record { sheet = text (withPairs ++ ("   3   3   0   2   1   3   1   2   2   2" ∷ [])); question = 0; line = 0 } ∷
-    record { sheet = text (withPairs ++ ("   3   3   0   2   1   2   2   3   1   2" ∷ [])); question = 0; line = 0 } ∷
-    record { sheet = text (withPairs ++ ("   3   3   0   3   1   2   2   1   2   2" ∷ [])); question = 0; line = 0 } ∷
+    record { sheet = text (with_pairs ++ ("   3   3   0   2   1   3   1   2   2   2" ∷ [])); question = 0; line = 0 } ∷
+    record { sheet = text (with_pairs ++ ("   3   3   0   2   1   2   2   3   1   2" ∷ [])); question = 0; line = 0 } ∷
+    record { sheet = text (with_pairs ++ ("   3   3   0   3   1   2   2   1   2   2" ∷ [])); question = 0; line = 0 } ∷
     -- the body joins no heads
-    record { sheet = text (withPairs ++ ("   3   2   1   2   1   2   2   3   1   2" ∷ [])); question = 14; line = 5 } ∷
+    record { sheet = text (with_pairs ++ ("   3   2   1   2   1   2   2   3   1   2" ∷ [])); question = 14; line = 5 } ∷
     -- after the variables of the body, which are asked after a column left over
-    record { sheet = text (withPairs ++ ("   3   2   1   2   1   2   2   2   3" ∷ [])); question = 12; line = 5 } ∷
-    record { sheet = text (withPairs ++ ("   3   2   1   2   1   2   2   2   3   1" ∷ [])); question = 11; line = 5 } ∷
+    record { sheet = text (with_pairs ++ ("   3   2   1   2   1   2   2   2   3" ∷ [])); question = 12; line = 5 } ∷
+    record { sheet = text (with_pairs ++ ("   3   2   1   2   1   2   2   2   3   1" ∷ [])); question = 11; line = 5 } ∷
     -- document 02, 3/14: a blank column is passed over wherever it stands: behind the last column, between others, before the kind
     record { sheet = text ("   1   1    " ∷ []); question = 0; line = 0 } ∷
     record { sheet = text ("   1       1" ∷ []); question = 0; line = 0 } ∷
@@ -281,15 +281,15 @@ sheets =
     record { sheet = replicate 140 32 ++ (10 ∷ []); question = 5; line = 1 } ∷
     record { sheet = text ("   1   1" ∷ "   2   3" ∷ []) ++ longest ++ bytes "    \n"; question = 5; line = 3 } ∷
     -- 13: at most 64 goal atoms, whatever their signs
-    record { sheet = text sixtyFour; question = 0; line = 0 } ∷
-    record { sheet = text (sixtyFour ++ ("   4   3  -1   1   2   2  -2  32" ∷ [])); question = 0; line = 0 } ∷
-    record { sheet = text (sixtyFour ++ ("   4   1   3" ∷ [])); question = 13; line = 13 } ∷
-    record { sheet = text (sixtyFour ++ ("   4   2   1   1  -3" ∷ [])); question = 13; line = 13 } ∷
+    record { sheet = text sixty_four; question = 0; line = 0 } ∷
+    record { sheet = text (sixty_four ++ ("   4   3  -1   1   2   2  -2  32" ∷ [])); question = 0; line = 0 } ∷
+    record { sheet = text (sixty_four ++ ("   4   1   3" ∷ [])); question = 13; line = 13 } ∷
+    record { sheet = text (sixty_four ++ ("   4   2   1   1  -3" ∷ [])); question = 13; line = 13 } ∷
     -- after a column left over
-    record { sheet = text (sixtyFour ++ ("   4   1   3   3" ∷ [])); question = 11; line = 13 } ∷
+    record { sheet = text (sixty_four ++ ("   4   1   3   3" ∷ [])); question = 11; line = 13 } ∷
     []
 
 -- each sheet is refused by its question at its line, or accepted
 pub refusals : map found sheets ≡ map claimed sheets
-unfolding sheets declared withPairs longest sixtyFour found claimed numbersOf Text·all Lists·all Words·all Instances·all Sheet·all Questions·all
+unfolding sheets declared with_pairs longest sixty_four found claimed numbers_of text_all lists_all words_all instances_all sheet_all questions_all
 refusals = refl

@@ -5,15 +5,15 @@ use Prim.Native.String.{String}
 use mathlib.Core.List.Memᴰ
 use mathlib.Core.List.{List, [], ◌∷◌, ◌++◌, map, cons≢nil}
 use Rattle.std.proofs.Common.{leb-true}
-use Rattle.definitions.specs.Lists.{Lists·all}
-use Rattle.definitions.specs.Bounds.{sheetBytes}
-use Rattle.definitions.specs.Words.{variable, Pattern, Rule, Words·all}
-use Rattle.definitions.specs.Instances.{Instances·all}
-use Rattle.definitions.specs.Sheet.{Line, lines, Sheet·all}
-use Rattle.definitions.specs.Questions.{no, Draft, readLine, Questions·all}
-use Rattle.definitions.specs.Text.{bytes, text, Text·all}
-use Rattle.definitions.specs.Sheets.{passes, isBlank, HeadAmong, Apart, Sheets·all}
-use Rattle.definitions.specs.RefusedLines.{RefusedAt, kind3, kind8, HeadApart, FreeVariable, RefusedLines·all}
+use Rattle.definitions.specs.Lists.{lists_all}
+use Rattle.definitions.specs.Bounds.{sheet_bytes}
+use Rattle.definitions.specs.Words.{variable, Pattern, Rule, words_all}
+use Rattle.definitions.specs.Instances.{instances_all}
+use Rattle.definitions.specs.Sheet.{Line, lines, sheet_all}
+use Rattle.definitions.specs.Questions.{no, Draft, read_line, questions_all}
+use Rattle.definitions.specs.Text.{bytes, text, text_all}
+use Rattle.definitions.specs.Sheets.{passes, is_blank, HeadAmong, Apart, sheets_all}
+use Rattle.definitions.specs.RefusedLines.{RefusedAt, kind3, kind8, HeadApart, FreeVariable, refused_lines_all}
 
 -- a line that LF ended
 unfoldable pub line_of : String → Line
@@ -25,20 +25,20 @@ opening = "   1   2" ∷ "   2   1" ∷ "   2   0" ∷ []
 
 -- what was read then: the kind of the line before, and the problem
 unfoldable pub opened : Draft
-opened = record { before = 2; problem = record { constants = 2; arities = 1 ∷ 0 ∷ []; ruleLines = []; rules = []; clauses = [] } }
+opened = record { before = 2; problem = record { constants = 2; arities = 1 ∷ 0 ∷ []; rule_lines = []; rules = []; clauses = [] } }
 
 -- a sheet with a line behind the opening, and a clause of no literals behind that
-unfoldable pub sheetWith : String → List ℕ
-sheetWith line = text (opening ++ (line ∷ "   4   0" ∷ []))
+unfoldable pub sheet_with : String → List ℕ
+sheet_with line = text (opening ++ (line ∷ "   4   0" ∷ []))
 
 -- where it is cut into these lines, it is refused at line 4 with the question that the line fails
-unfoldable pub refused-at-4 : (line : String) (question : ℕ) → leb (length (sheetWith line)) sheetBytes ≡ true
-    → lines (sheetWith line) ≡ map line_of opening ++ line_of line ∷ line_of "   4   0" ∷ [] → readLine opened (line_of line) ≡ no question
-    → RefusedAt (sheetWith line) question 4
-unfolding line_of opening opened Text·all Lists·all Words·all Instances·all Sheet·all Questions·all RefusedLines·all
+unfoldable pub refused-at-4 : (line : String) (question : ℕ) → leb (length (sheet_with line)) sheet_bytes ≡ true
+    → lines (sheet_with line) ≡ map line_of opening ++ line_of line ∷ line_of "   4   0" ∷ [] → read_line opened (line_of line) ≡ no question
+    → RefusedAt (sheet_with line) question 4
+unfolding line_of opening opened text_all lists_all words_all instances_all sheet_all questions_all refused_lines_all
 refused-at-4 line question short split fails =
     record {
-      short = leb-true (length (sheetWith line)) sheetBytes short;
+      short = leb-true (length (sheet_with line)) sheet_bytes short;
       before = map line_of opening;
       failing = line_of line;
       behind = line_of "   4   0" ∷ [];
@@ -50,69 +50,69 @@ refused-at-4 line question short split fails =
     }
 
 -- symbol 1 with a variable
-onVariable : ℕ → Pattern
-onVariable v = record { positive = true; symbol = 1; terms = variable v ∷ [] }
+on_variable : ℕ → Pattern
+on_variable v = record { positive = true; symbol = 1; terms = variable v ∷ [] }
 
-symbolTwo : Pattern
-symbolTwo = record { positive = true; symbol = 2; terms = [] }
+symbol_two : Pattern
+symbol_two = record { positive = true; symbol = 2; terms = [] }
 
 -- ── 14 ──
 
 -- p(X) and p(Y) give false: on a line of kind 3,
-unfoldable pub apartLine : String
-apartLine = "   3   2   0   1   1   1   2"
+unfoldable pub apart_line : String
+apart_line = "   3   2   0   1   1   1   2"
 
-unfoldable pub apart-refused : RefusedAt (sheetWith apartLine) 14 4
-unfolding apartLine sheetWith line_of opening opened Text·all Lists·all Words·all Instances·all Sheet·all Questions·all
-apart-refused = refused-at-4 apartLine 14 refl refl refl
+unfoldable pub apart-refused : RefusedAt (sheet_with apart_line) 14 4
+unfolding apart_line sheet_with line_of opening opened text_all lists_all words_all instances_all sheet_all questions_all
+apart-refused = refused-at-4 apart_line 14 refl refl refl
 
 -- and with p(X) kept and p(Y) rewritten on a line of kind 8, blanks among its columns
-unfoldable pub keptApartLine : String
-keptApartLine = "   8   1   1   0       1   1       1   2"
+unfoldable pub kept_apart_line : String
+kept_apart_line = "   8   1   1   0       1   1       1   2"
 
-unfoldable pub kept-apart-refused : RefusedAt (sheetWith keptApartLine) 14 4
-unfolding keptApartLine sheetWith line_of opening opened Text·all Lists·all Words·all Instances·all Sheet·all Questions·all
-kept-apart-refused = refused-at-4 keptApartLine 14 refl refl refl
+unfoldable pub kept-apart-refused : RefusedAt (sheet_with kept_apart_line) 14 4
+unfolding kept_apart_line sheet_with line_of opening opened text_all lists_all words_all instances_all sheet_all questions_all
+kept-apart-refused = refused-at-4 kept_apart_line 14 refl refl refl
 
 -- either way this is the rule of which 14 is asked,
-unfoldable pub apartRule : Rule
-unfolding onVariable
-apartRule = record { heads = onVariable 1 ∷ onVariable 2 ∷ []; body = [] }
+unfoldable pub apart_rule : Rule
+unfolding on_variable
+apart_rule = record { heads = on_variable 1 ∷ on_variable 2 ∷ []; body = [] }
 
 -- and X stands in no other head
-firstHead : HeadAmong apartRule
-unfolding apartRule onVariable
-firstHead = record { head = onVariable 1; before = []; behind = onVariable 2 ∷ []; heads = refl; several = cons≢nil }
+first_head : HeadAmong apart_rule
+unfolding apart_rule on_variable
+first_head = record { head = on_variable 1; before = []; behind = on_variable 2 ∷ []; heads = refl; several = cons≢nil }
 
-first-apart : Apart firstHead
-unfolding firstHead apartRule onVariable Lists·all Instances·all
+first-apart : Apart first_head
+unfolding first_head apart_rule on_variable lists_all instances_all
 first-apart v m = let same : variable v ≡ variable 1 = Memᴰ.eq_of_singleton m in let only : v ≡ 1 = cc in rw only refl
 
 pub apart-head : HeadApart apart-refused.draft apart-refused.failing
-unfolding refused-at-4 apart-refused apartLine apartRule onVariable line_of opened Text·all Lists·all Words·all Instances·all Sheet·all Questions·all Sheets·all RefusedLines·all
-apart-head = record { rule = apartRule; typed = kind3 _ refl refl; head = firstHead; apart = first-apart }
+unfolding refused-at-4 apart-refused apart_line apart_rule on_variable line_of opened text_all lists_all words_all instances_all sheet_all questions_all sheets_all refused_lines_all
+apart-head = record { rule = apart_rule; typed = kind3 _ refl refl; head = first_head; apart = first-apart }
 
 pub kept-apart-head : HeadApart kept-apart-refused.draft kept-apart-refused.failing
-unfolding refused-at-4 kept-apart-refused keptApartLine apartRule onVariable line_of opened Text·all Lists·all Words·all Instances·all Sheet·all Questions·all Sheets·all RefusedLines·all
-kept-apart-head = record { rule = apartRule; typed = kind8 _ _ refl refl refl; head = firstHead; apart = first-apart }
+unfolding refused-at-4 kept-apart-refused kept_apart_line apart_rule on_variable line_of opened text_all lists_all words_all instances_all sheet_all questions_all sheets_all refused_lines_all
+kept-apart-head = record { rule = apart_rule; typed = kind8 _ _ refl refl refl; head = first_head; apart = first-apart }
 
 -- ── 12 ──
 
 -- q gives p(X)
-unfoldable pub freeLine : String
-freeLine = "   3   1   1   2   1   1"
+unfoldable pub free_line : String
+free_line = "   3   1   1   2   1   1"
 
-unfoldable pub free-refused : RefusedAt (sheetWith freeLine) 12 4
-unfolding freeLine sheetWith line_of opening opened Text·all Lists·all Words·all Instances·all Sheet·all Questions·all
-free-refused = refused-at-4 freeLine 12 refl refl refl
+unfoldable pub free-refused : RefusedAt (sheet_with free_line) 12 4
+unfolding free_line sheet_with line_of opening opened text_all lists_all words_all instances_all sheet_all questions_all
+free-refused = refused-at-4 free_line 12 refl refl refl
 
 pub free-variable : FreeVariable free-refused.draft free-refused.failing
-unfolding refused-at-4 free-refused freeLine onVariable symbolTwo line_of opened Text·all Lists·all Words·all Instances·all Sheet·all Questions·all Sheets·all RefusedLines·all
+unfolding refused-at-4 free-refused free_line on_variable symbol_two line_of opened text_all lists_all words_all instances_all sheet_all questions_all sheets_all refused_lines_all
 free-variable =
     record {
-      rule = record { heads = symbolTwo ∷ []; body = onVariable 1 ∷ [] };
+      rule = record { heads = symbol_two ∷ []; body = on_variable 1 ∷ [] };
       typed = kind3 _ refl refl;
-      literal = onVariable 1;
+      literal = on_variable 1;
       inside = Memᴰ.head refl;
       free = 1;
       here = Memᴰ.head refl;
@@ -121,18 +121,18 @@ free-variable =
 
 -- ── a line of blanks ──
 
-unfoldable pub blankLine : String
-blankLine = "            "
+unfoldable pub blank_line : String
+blank_line = "            "
 
-unfoldable pub blank-refused : RefusedAt (sheetWith blankLine) 7 4
-unfolding blankLine sheetWith line_of opening opened Text·all Lists·all Words·all Instances·all Sheet·all Questions·all
-blank-refused = refused-at-4 blankLine 7 refl refl refl
+unfoldable pub blank-refused : RefusedAt (sheet_with blank_line) 7 4
+unfolding blank_line sheet_with line_of opening opened text_all lists_all words_all instances_all sheet_all questions_all
+blank-refused = refused-at-4 blank_line 7 refl refl refl
 
 -- it passes 4 and 5
 pub blank-passes : passes blank-refused.failing ≡ true
-unfolding refused-at-4 blank-refused blankLine line_of Text·all Questions·all Sheets·all
+unfolding refused-at-4 blank-refused blank_line line_of text_all questions_all sheets_all
 blank-passes = refl
 
-pub blank-is-blank : isBlank blank-refused.failing.bytes ≡ true
-unfolding refused-at-4 blank-refused blankLine line_of Text·all Lists·all Sheets·all
+pub blank-is-blank : is_blank blank-refused.failing.bytes ≡ true
+unfolding refused-at-4 blank-refused blank_line line_of text_all lists_all sheets_all
 blank-is-blank = refl

@@ -7,14 +7,14 @@ pub record Line : Type 0 where
   pub bytes : List ℕ
   pub ended : Bool
 
-unfoldable pub putByte : ℕ → List Line → List Line
-putByte b [] = record { bytes = b ∷ []; ended = false } ∷ []
-putByte b (l ∷ ls) = record { bytes = b ∷ l.bytes; ended = l.ended } ∷ ls
+unfoldable pub put_byte : ℕ → List Line → List Line
+put_byte b [] = record { bytes = b ∷ []; ended = false } ∷ []
+put_byte b (l ∷ ls) = record { bytes = b ∷ l.bytes; ended = l.ended } ∷ ls
 
 -- the pieces up to each LF (byte 10), and what stands behind the last LF, if anything does
 unfoldable pub lines : List ℕ → List Line
 lines [] = []
-lines (b ∷ bs) = elim (eqb b 10) [ true ↦ record { bytes = []; ended = true } ∷ lines bs | false ↦ putByte b (lines bs) ]
+lines (b ∷ bs) = elim (eqb b 10) [ true ↦ record { bytes = []; ended = true } ∷ lines bs | false ↦ put_byte b (lines bs) ]
 
 -- a column's number, its sign apart from its size
 pub record Number : Type 0 where
@@ -33,13 +33,13 @@ pub data Column : Type 0 where
   nothing : Column
   fault : Column
 
-unfoldable pub isDigit : ℕ → Bool
-isDigit b = leb 48 b && leb b 57
+unfoldable pub is_digit : ℕ → Bool
+is_digit b = leb 48 b && leb b 57
 
 -- digits after a number that was read already
 unfoldable pub digits : Bool → ℕ → List ℕ → Column
 digits negative n [] = number (record { negative = negative; size = n })
-digits negative n (b ∷ bs) = elim (isDigit b) [ true ↦ digits negative (n * 10 + (b - 48)) bs | false ↦ fault ]
+digits negative n (b ∷ bs) = elim (is_digit b) [ true ↦ digits negative (n * 10 + (b - 48)) bs | false ↦ fault ]
 
 -- a digit that is not 0, and more digits
 unfoldable pub natural : Bool → List ℕ → Column
@@ -61,6 +61,6 @@ decimal [] = nothing
 decimal (b ∷ bs) = elim (eqb b 32) [ true ↦ decimal bs | false ↦ signed (b ∷ bs) ]
 
 -- names every definition of this module, for a theorem that computes with all of them
-unfoldable pub Sheet·all : Unit {0}
-unfolding putByte lines plus minus isDigit digits natural signed decimal
-Sheet·all = tt
+unfoldable pub sheet_all : Unit {0}
+unfolding put_byte lines plus minus is_digit digits natural signed decimal
+sheet_all = tt

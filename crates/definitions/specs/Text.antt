@@ -14,6 +14,6 @@ unfoldable pub text : List String → List ℕ
 text ls = joined (λ (l : String). bytes l ++ (10 ∷ [])) ls
 
 -- names every definition of this module, for a theorem that computes with all of them
-unfoldable pub Text·all : Unit {0}
+unfoldable pub text_all : Unit {0}
 unfolding bytes text
-Text·all = tt
+text_all = tt

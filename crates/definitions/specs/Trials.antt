@@ -1,15 +1,15 @@
 -- Document 01, "Bench trials": the starred ones, sheet and listing, as one list with one claim. Assumes nothing.
 use Rattle.std.specs.Prelude.{ℕ, ◌≡◌, refl, List, [], ◌∷◌, map}
 use Prim.Native.String.{String}
-use Rattle.definitions.specs.Lists.{Lists·all}
-use Rattle.definitions.specs.Words.{Words·all}
-use Rattle.definitions.specs.Instances.{Instances·all}
-use Rattle.definitions.specs.Sheet.{Sheet·all}
-use Rattle.definitions.specs.Questions.{Questions·all}
-use Rattle.definitions.specs.Search.{Search·all}
-use Rattle.definitions.specs.Listing.{Listing·all}
-use Rattle.definitions.specs.Call.{printed, Call·all}
-use Rattle.definitions.specs.Text.{text, Text·all}
+use Rattle.definitions.specs.Lists.{lists_all}
+use Rattle.definitions.specs.Words.{words_all}
+use Rattle.definitions.specs.Instances.{instances_all}
+use Rattle.definitions.specs.Sheet.{sheet_all}
+use Rattle.definitions.specs.Questions.{questions_all}
+use Rattle.definitions.specs.Search.{search_all}
+use Rattle.definitions.specs.Listing.{listing_all}
+use Rattle.definitions.specs.Call.{printed, call_all}
+use Rattle.definitions.specs.Text.{text, text_all}
 
 -- a sheet, a budget, and what is printed
 pub record Trial : Type 0 where
@@ -115,5 +115,5 @@ trials =
 
 -- each sheet gives its listing
 pub starred : map shown trials ≡ map expected trials
-unfolding trials shown expected Text·all Lists·all Words·all Instances·all Sheet·all Questions·all Search·all Listing·all Call·all
+unfolding trials shown expected text_all lists_all words_all instances_all sheet_all questions_all search_all listing_all call_all
 starred = refl

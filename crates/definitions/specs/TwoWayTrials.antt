@@ -4,21 +4,21 @@ use Rattle.std.specs.Prelude.{ℕ, ◌≡◌, refl, true, eqb, replicate}
 use Rattle.std.proofs.lemmas.Bool.{false≢true}
 use mathlib.Core.List.Memᴰ
 use mathlib.Core.List.{List, [], ◌∷◌, ◌++◌, map, cons≢nil}
-use Rattle.definitions.specs.Lists.{◌∈◌, Lists·all}
-use Rattle.definitions.specs.Words.{variable, Rule, TwoWay, forward, twoWay, Problem, Words·all}
-use Rattle.definitions.specs.Instances.{Instances·all}
-use Rattle.definitions.specs.Meaning.{Assignment, SatisfiesClauses, headFalse, SatisfiesRule, Satisfies}
-use Rattle.definitions.specs.Sheet.{Sheet·all}
-use Rattle.definitions.specs.Questions.{accepted, read, Questions·all}
-use Rattle.definitions.specs.Search.{Search·all}
-use Rattle.definitions.specs.Listing.{Listing·all}
-use Rattle.definitions.specs.Call.{Call·all}
-use Rattle.definitions.specs.Text.{text, Text·all}
+use Rattle.definitions.specs.Lists.{◌∈◌, lists_all}
+use Rattle.definitions.specs.Words.{variable, Rule, TwoWay, forward, two_way, Problem, words_all}
+use Rattle.definitions.specs.Instances.{instances_all}
+use Rattle.definitions.specs.Meaning.{Assignment, SatisfiesClauses, head_false, SatisfiesRule, Satisfies}
+use Rattle.definitions.specs.Sheet.{sheet_all}
+use Rattle.definitions.specs.Questions.{accepted, read, questions_all}
+use Rattle.definitions.specs.Search.{search_all}
+use Rattle.definitions.specs.Listing.{listing_all}
+use Rattle.definitions.specs.Call.{call_all}
+use Rattle.definitions.specs.Text.{text, text_all}
 use Rattle.definitions.specs.Trials.{Trial, shown, expected}
-use Rattle.definitions.specs.Refusals.{SheetTrial, numbersOf, found, claimed, declared, withPairs}
+use Rattle.definitions.specs.Refusals.{SheetTrial, numbers_of, found, claimed, declared, with_pairs}
 
-unfoldable pub twoWaySheets : List SheetTrial
-twoWaySheets =
+unfoldable pub two_way_sheets : List SheetTrial
+two_way_sheets =
     -- 7/14, kind 8 wherever kind 3 is and ranked with it: between lines of kind 3, not after 4, and 2 not after 8
     record { sheet = text (declared ++ ("   3   1   0   1" ∷ "   8   0   1   0   1" ∷ "   3   1   0   1" ∷ "   8   0   1   1   1   1" ∷ [])); question = 0; line = 0 } ∷
     record { sheet = text (declared ++ ("   4   0" ∷ "   8   0   1   0   1" ∷ [])); question = 7; line = 5 } ∷
@@ -61,23 +61,23 @@ twoWaySheets =
     record { sheet = text (declared ++ ("   8   0   1   1   1   1   1" ∷ [])); question = 11; line = 4 } ∷
     -- 12 and 14 are asked of the forward rule: a body variable in no head; kept and rewritten heads apart
     record { sheet = text (declared ++ ("   8   0   1   1   1   2   1" ∷ [])); question = 12; line = 4 } ∷
-    record { sheet = text (withPairs ++ ("   8   0   1   1   2   1   3   1   2" ∷ [])); question = 12; line = 5 } ∷
+    record { sheet = text (with_pairs ++ ("   8   0   1   1   2   1   3   1   2" ∷ [])); question = 12; line = 5 } ∷
     record { sheet = text (declared ++ ("   8   1   1   0   2   1   2   2" ∷ [])); question = 14; line = 4 } ∷
-    record { sheet = text (withPairs ++ ("   8   1   1   1   2   1   2   2   3   1   2" ∷ [])); question = 14; line = 5 } ∷
+    record { sheet = text (with_pairs ++ ("   8   1   1   1   2   1   2   2   3   1   2" ∷ [])); question = 14; line = 5 } ∷
     record { sheet = text (declared ++ ("   8   1   1   0   2   1   2   1" ∷ [])); question = 0; line = 0 } ∷
     -- not of the reverse: its head q(X) leaves Y of r(X,Y) free; its heads q(X) and q(Y) share no variable
-    record { sheet = text (withPairs ++ ("   8   0   1   1   3   1   2   2   1" ∷ [])); question = 0; line = 0 } ∷
-    record { sheet = text (withPairs ++ ("   8   0   1   2   3   1   2   2   1   2   2" ∷ [])); question = 0; line = 0 } ∷
+    record { sheet = text (with_pairs ++ ("   8   0   1   1   3   1   2   2   1" ∷ [])); question = 0; line = 0 } ∷
+    record { sheet = text (with_pairs ++ ("   8   0   1   2   3   1   2   2   1   2   2" ∷ [])); question = 0; line = 0 } ∷
     []
 
 -- each sheet is refused by its question at its line, or accepted
-pub two-way-refusals : map found twoWaySheets ≡ map claimed twoWaySheets
-unfolding twoWaySheets declared withPairs found claimed numbersOf Text·all Lists·all Words·all Instances·all Sheet·all Questions·all
+pub two-way-refusals : map found two_way_sheets ≡ map claimed two_way_sheets
+unfolding two_way_sheets declared with_pairs found claimed numbers_of text_all lists_all words_all instances_all sheet_all questions_all
 two-way-refusals = refl
 
 -- each comment has the rules and the clauses, then a wrong turn and what it comes to; symbols are numbered in the order of the comment
-unfoldable pub twoWayTrials : List Trial
-twoWayTrials =
+unfoldable pub two_way_trials : List Trial
+two_way_trials =
     -- p <=> c; c. The forward rule is 1, the reverse 2. Reading forwards alone: p is never set
     record {
       sheet =
@@ -184,54 +184,54 @@ twoWayTrials =
     []
 
 -- each sheet gives its listing
-pub two-way-listings : map shown twoWayTrials ≡ map expected twoWayTrials
-unfolding twoWayTrials shown expected Text·all Lists·all Words·all Instances·all Sheet·all Questions·all Search·all Listing·all Call·all
+pub two-way-listings : map shown two_way_trials ≡ map expected two_way_trials
+unfolding two_way_trials shown expected text_all lists_all words_all instances_all sheet_all questions_all search_all listing_all call_all
 two-way-listings = refl
 
 -- ── without the reverse ──
 
 -- r(X,Y) <=> q(X); q(1). Whatever stands for Y, r(X,Y) holds exactly if q(X) does; the reverse rule would leave Y free
-unfoldable pub freeVariable : TwoWay
-freeVariable =
+unfoldable pub free_variable : TwoWay
+free_variable =
     record {
       kept = [];
       rewritten = record { positive = true; symbol = 1; terms = variable 1 ∷ variable 2 ∷ [] } ∷ [];
       body = record { positive = true; symbol = 2; terms = variable 1 ∷ [] } ∷ [];
     }
 
-unfoldable pub freeSheet : List ℕ
-freeSheet = text ("   1   1" ∷ "   2   2" ∷ "   2   1" ∷ "   8   0   1   1   1   1   2   2   1" ∷ "   4   1   2   1" ∷ [])
+unfoldable pub free_sheet : List ℕ
+free_sheet = text ("   1   1" ∷ "   2   2" ∷ "   2   1" ∷ "   8   0   1   1   1   1   2   2   1" ∷ "   4   1   2   1" ∷ [])
 
-unfoldable pub freeProblem : Problem
-freeProblem =
+unfoldable pub free_problem : Problem
+free_problem =
     record {
       constants = 1;
       arities = 2 ∷ 1 ∷ [];
-      ruleLines = twoWay freeVariable ∷ [];
-      rules = forward freeVariable ∷ [];
+      rule_lines = two_way free_variable ∷ [];
+      rules = forward free_variable ∷ [];
       clauses = (record { positive = true; atom = record { symbol = 2; args = 1 ∷ [] } } ∷ []) ∷ [];
     }
 
-pub free-read : read freeSheet ≡ accepted freeProblem
-unfolding freeSheet freeProblem freeVariable Text·all Lists·all Words·all Instances·all Sheet·all Questions·all
+pub free-read : read free_sheet ≡ accepted free_problem
+unfolding free_sheet free_problem free_variable text_all lists_all words_all instances_all sheet_all questions_all
 free-read = refl
 
 -- q everywhere and r nowhere
-unfoldable pub bodyAlone : Assignment
-bodyAlone a = eqb a.symbol 2
+unfoldable pub body_alone : Assignment
+body_alone a = eqb a.symbol 2
 
 -- satisfies the clause and every filling of the one rule that the line stands for,
-pub clauses-satisfied : SatisfiesClauses bodyAlone freeProblem.clauses
-unfolding freeProblem bodyAlone
+pub clauses-satisfied : SatisfiesClauses body_alone free_problem.clauses
+unfolding free_problem body_alone
 clauses-satisfied c m = rw (Memᴰ.eq_of_singleton m) (record { literal = _; inside = Memᴰ.head refl; holds = refl })
 
-pub rules-satisfied : (r : Rule) → r ∈ freeProblem.rules → SatisfiesRule bodyAlone freeProblem.constants r
-unfolding freeProblem freeVariable bodyAlone Lists·all Words·all Instances·all Questions·all
-rules-satisfied r m f n = rw (Memᴰ.eq_of_singleton m) (headFalse _ (Memᴰ.head refl) refl)
+pub rules-satisfied : (r : Rule) → r ∈ free_problem.rules → SatisfiesRule body_alone free_problem.constants r
+unfolding free_problem free_variable body_alone lists_all words_all instances_all questions_all
+rules-satisfied r m f n = rw (Memᴰ.eq_of_singleton m) (head_false _ (Memᴰ.head refl) refl)
 
 -- and doesn't satisfy the sheet: the equivalence is broken
-pub equivalence-broken : Satisfies bodyAlone freeProblem → ⊥
-unfolding freeProblem freeVariable bodyAlone Lists·all Words·all Instances·all
+pub equivalence-broken : Satisfies body_alone free_problem → ⊥
+unfolding free_problem free_variable body_alone lists_all words_all instances_all
 equivalence-broken h =
     let e = h.lines _ (Memᴰ.head refl) _ (Memᴰ.head refl) in
     false≢true (e.back (λ p m. absurd (Memᴰ.not-nil m)) (cons≢nil, (λ p m. rw (Memᴰ.eq_of_singleton m) refl)) _ (Memᴰ.head refl))

@@ -26,11 +26,11 @@ same_args [] (y ∷ ys) = false
 same_args (x ∷ xs) [] = false
 same_args (x ∷ xs) (y ∷ ys) = eqb x y && same_args xs ys
 
-unfoldable pub sameAtom : Atom → Atom → Bool
-sameAtom a b = eqb a.symbol b.symbol && same_args a.args b.args
+unfoldable pub same_atom : Atom → Atom → Bool
+same_atom a b = eqb a.symbol b.symbol && same_args a.args b.args
 
-unfoldable pub sameLiteral : Literal → Literal → Bool
-sameLiteral l m = beq l.positive m.positive && sameAtom l.atom m.atom
+unfoldable pub same_literal : Literal → Literal → Bool
+same_literal l m = beq l.positive m.positive && same_atom l.atom m.atom
 
 -- "clause": some literal of it is to be true
 abbrev pub Clause : Type 0
@@ -68,28 +68,28 @@ reverse t = record { heads = t.kept ++ t.body; body = t.rewritten }
 
 -- what a line of kind 3 or of kind 8 says
 pub data RuleLine : Type 0 where
-  oneWay : Rule → RuleLine
-  twoWay : TwoWay → RuleLine
+  one_way : Rule → RuleLine
+  two_way : TwoWay → RuleLine
 
 -- what a sheet says: the number of constants, the arity of each symbol from 1, the lines of kinds 3 and 8, and the clauses; besides the
 -- lines, the rules that they stand for, which are numbered from 1 and which the search works on
 pub record Problem : Type 0 where
   pub constants : ℕ
   pub arities : List ℕ
-  pub ruleLines : List RuleLine
+  pub rule_lines : List RuleLine
   pub rules : List Rule
   pub clauses : List Clause
 
 -- "goal atoms": those in the clauses, in order of first appearance
-unfoldable pub goalAtoms : List Clause → List Atom
-goalAtoms cs = distinct sameAtom (map (λ (l : Literal). l.atom) (joined (λ (c : Clause). c) cs))
+unfoldable pub goal_atoms : List Clause → List Atom
+goal_atoms cs = distinct same_atom (map (λ (l : Literal). l.atom) (joined (λ (c : Clause). c) cs))
 
 -- where an atom stands in a table, from 0
 unfoldable pub position : List Atom → Atom → ℕ
 position [] a = 0
-position (b ∷ bs) a = elim (sameAtom b a) [ true ↦ 0 | false ↦ suc (position bs a) ]
+position (b ∷ bs) a = elim (same_atom b a) [ true ↦ 0 | false ↦ suc (position bs a) ]
 
 -- names every definition of this module, for a theorem that computes with all of them
-unfoldable pub Words·all : Unit {0}
-unfolding negate plain same_args sameAtom sameLiteral forward reverse goalAtoms position
-Words·all = tt
+unfoldable pub words_all : Unit {0}
+unfolding negate plain same_args same_atom same_literal forward reverse goal_atoms position
+words_all = tt

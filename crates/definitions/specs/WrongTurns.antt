@@ -1,22 +1,22 @@
 -- Document 01, "Wrong turns", and others near them: small sheets on which a solver that takes the turn prints something else. Assumes nothing.
 use Rattle.std.specs.Prelude.{◌≡◌, refl, List, [], ◌∷◌, ◌++◌, map}
-use Rattle.definitions.specs.Lists.{Lists·all}
-use Rattle.definitions.specs.Words.{Words·all}
-use Rattle.definitions.specs.Instances.{Instances·all}
-use Rattle.definitions.specs.Sheet.{Sheet·all}
-use Rattle.definitions.specs.Questions.{Questions·all}
-use Rattle.definitions.specs.Search.{Search·all}
-use Rattle.definitions.specs.Listing.{Listing·all}
-use Rattle.definitions.specs.Call.{Call·all}
-use Rattle.definitions.specs.Text.{Text·all}
+use Rattle.definitions.specs.Lists.{lists_all}
+use Rattle.definitions.specs.Words.{words_all}
+use Rattle.definitions.specs.Instances.{instances_all}
+use Rattle.definitions.specs.Sheet.{sheet_all}
+use Rattle.definitions.specs.Questions.{questions_all}
+use Rattle.definitions.specs.Search.{search_all}
+use Rattle.definitions.specs.Listing.{listing_all}
+use Rattle.definitions.specs.Call.{call_all}
+use Rattle.definitions.specs.Text.{text_all}
 use Rattle.definitions.specs.Trials.{Trial, shown, expected}
 
 -- Each comment has the rules and the clauses, then the wrong turn and what it comes to. Atoms p, q and r are goal atoms, c and d are
 -- not. Symbols are numbered in the order in which the comment names them.
 
 -- created atoms: who may set them, and that nothing decides them
-unfoldable pub onCreatedAtoms : List Trial
-onCreatedAtoms =
+unfoldable pub on_created_atoms : List Trial
+on_created_atoms =
     -- p gives c, c gives false, not c gives false; p or not p. After the conflict p is false and the created atom c is unset.
     -- Deciding c after backtracking, or setting it backwards from the false body (not c is logged), fires the last rule: UNSAT
     record {
@@ -108,8 +108,8 @@ onCreatedAtoms =
     []
 
 -- goal atoms: a logged clause sets them backwards too
-unfoldable pub onGoalAtoms : List Trial
-onGoalAtoms =
+unfoldable pub on_goal_atoms : List Trial
+on_goal_atoms =
     -- q gives false; not p or q. Barring the logged clause not q from the goal atom q: 2 decisions
     record {
       sheet = "   1   1" ∷ "   2   0" ∷ "   2   0" ∷ "   3   1   0   1" ∷ "   4   2  -2   1" ∷ [];
@@ -137,8 +137,8 @@ onGoalAtoms =
     []
 
 -- an atom outside the table, or unset, is neither true nor false
-unfoldable pub onUnsetAtoms : List Trial
-onUnsetAtoms =
+unfoldable pub on_unset_atoms : List Trial
+on_unset_atoms =
     -- p(X) and not c(X) give false; p(1). Reading c(1) as false in the head fires the rule
     record {
       sheet = "   1   1" ∷ "   2   1" ∷ "   2   1" ∷ "   3   2   0   1   1  -2   1" ∷ "   4   1   1   1" ∷ [];
@@ -176,8 +176,8 @@ onUnsetAtoms =
     []
 
 -- conflicts: when they are tested, and what they undo
-unfoldable pub onConflicts : List Trial
-onConflicts =
+unfoldable pub on_conflicts : List Trial
+on_conflicts =
     -- p; not p; q or not q. Testing for conflict only after a decision: q is decided first
     record {
       sheet = "   1   1" ∷ "   2   0" ∷ "   2   0" ∷ "   4   1   1" ∷ "   4   1  -1" ∷ "   4   2   2  -2" ∷ [];
@@ -235,8 +235,8 @@ onConflicts =
     []
 
 -- decisions and the budget
-unfoldable pub onDecisions : List Trial
-onDecisions =
+unfoldable pub on_decisions : List Trial
+on_decisions =
     -- not p or not q. Deciding false first: the choice that is shown is not the first one
     record {
       sheet = "   1   1" ∷ "   2   0" ∷ "   2   0" ∷ "   4   2  -1  -2" ∷ [];
@@ -270,8 +270,8 @@ onDecisions =
     []
 
 -- rules: which instance, which body literal, and what is logged
-unfoldable pub onRules : List Trial
-onRules =
+unfoldable pub on_rules : List Trial
+on_rules =
     -- a(X5,X3) and b(X2,X3) give false; a(1,2); b(2,2); a(2,1); b(1,1). Ordering fillings by where the heads show the variables: another
     -- clause is logged
     record {
@@ -390,8 +390,8 @@ onRules =
     []
 
 -- repeats in a clause
-unfoldable pub onRepeats : List Trial
-onRepeats =
+unfoldable pub on_repeats : List Trial
+on_repeats =
     -- p or p. Counting the repeated literal twice: p is decided
     record {
       sheet = "   1   1" ∷ "   2   0" ∷ "   4   2   1   1" ∷ [];
@@ -407,8 +407,8 @@ onRepeats =
     []
 
 -- one literal that serves two heads
-unfoldable pub onEqualHeads : List Trial
-onEqualHeads =
+unfoldable pub on_equal_heads : List Trial
+on_equal_heads =
     -- p(X,Z) and p(Y,Z) give c(X,Y); p(1,1). Writing the negated head twice: 3 literals. Asking two literals of the clause, as many as
     -- there are heads, before c(1,1) may be set: it is one of them, and is never set
     record {
@@ -506,9 +506,9 @@ onEqualHeads =
     []
 
 unfoldable pub turns : List Trial
-turns = onCreatedAtoms ++ onGoalAtoms ++ onUnsetAtoms ++ onConflicts ++ onDecisions ++ onRules ++ onRepeats ++ onEqualHeads
+turns = on_created_atoms ++ on_goal_atoms ++ on_unset_atoms ++ on_conflicts ++ on_decisions ++ on_rules ++ on_repeats ++ on_equal_heads
 
 -- each sheet gives its listing
 pub unmoved : map shown turns ≡ map expected turns
-unfolding turns onCreatedAtoms onGoalAtoms onUnsetAtoms onConflicts onDecisions onRules onRepeats onEqualHeads shown expected Text·all Lists·all Words·all Instances·all Sheet·all Questions·all Search·all Listing·all Call·all
+unfolding turns on_created_atoms on_goal_atoms on_unset_atoms on_conflicts on_decisions on_rules on_repeats on_equal_heads shown expected text_all lists_all words_all instances_all sheet_all questions_all search_all listing_all call_all
 unmoved = refl

@@ -12,24 +12,24 @@ use Rattle.definitions.specs.Lists.{◌∈◌}
 use Rattle.theory.specs.Tests.{apart, none≢some, some-injective}
 use Rattle.encoding.specs.CountLaws.{left-none, by_order}
 
-pub getD-repeated : {A : Type 0} (d : A) (n i : ℕ) → get_or (replicate n d) i d ≡ d
-getD-repeated d zero i = refl
-getD-repeated d (suc n) zero = refl
-getD-repeated d (suc n) (suc i) = getD-repeated d n i
+pub get_d-repeated : {A : Type 0} (d : A) (n i : ℕ) → get_or (replicate n d) i d ≡ d
+get_d-repeated d zero i = refl
+get_d-repeated d (suc n) zero = refl
+get_d-repeated d (suc n) (suc i) = get_d-repeated d n i
 
 -- what holds of the default and of every element holds at every place
-pub getD-each : {A : Type 0} (P : A → Type 0) (l : List A) (i : ℕ) (d : A) → P d → ((x : A) → x ∈ l → P x) → P (get_or l i d)
-getD-each P [] i d h g = h
-getD-each P (x ∷ l) zero d h g = g x (Memᴰ.head refl)
-getD-each P (x ∷ l) (suc i) d h g = getD-each P l i d h (λ y m. g y (Memᴰ.tail m))
+pub get_d-each : {A : Type 0} (P : A → Type 0) (l : List A) (i : ℕ) (d : A) → P d → ((x : A) → x ∈ l → P x) → P (get_or l i d)
+get_d-each P [] i d h g = h
+get_d-each P (x ∷ l) zero d h g = g x (Memᴰ.head refl)
+get_d-each P (x ∷ l) (suc i) d h g = get_d-each P l i d h (λ y m. g y (Memᴰ.tail m))
 
 -- what holds of a word that is stored, and at a place before, holds there afterwards
-pub getD-set-each : (P : ℕ → Type 0) (l : List ℕ) (i v k : ℕ) → P v → P (get_or l k 0) → P (get_or (set l i v) k 0)
-getD-set-each P [] i v k h g = g
-getD-set-each P (x ∷ l) zero v zero h g = h
-getD-set-each P (x ∷ l) zero v (suc k) h g = g
-getD-set-each P (x ∷ l) (suc i) v zero h g = g
-getD-set-each P (x ∷ l) (suc i) v (suc k) h g = getD-set-each P l i v k h g
+pub get_d-set-each : (P : ℕ → Type 0) (l : List ℕ) (i v k : ℕ) → P v → P (get_or l k 0) → P (get_or (set l i v) k 0)
+get_d-set-each P [] i v k h g = g
+get_d-set-each P (x ∷ l) zero v zero h g = h
+get_d-set-each P (x ∷ l) zero v (suc k) h g = g
+get_d-set-each P (x ∷ l) (suc i) v zero h g = g
+get_d-set-each P (x ∷ l) (suc i) v (suc k) h g = get_d-set-each P l i v k h g
 
 -- the words from one place up to another: the first of them, and those behind it
 pub part-cons : (l : List ℕ) (end i : ℕ) → i < end → end ≤ length l
@@ -59,11 +59,11 @@ front_at f (y ∷ xs) (w ∷ array) h zero x d e = head-eq_of_cons-eq h ∙ ap f
 front_at f (y ∷ xs) (w ∷ array) h (suc i) x d e = front_at f xs array (tail-eq_of_cons-eq h) i x d e
 
 -- where each word is at most the next, it is at most every one behind it
-pub getD-rising : (l : List ℕ) (n : ℕ) → ((i : ℕ) → i < n → get_or l i 0 ≤ get_or l (i + 1) 0) → (i : ℕ) → i ≤ n → get_or l i 0 ≤ get_or l n 0
-getD-rising l zero up i h = let e : i ≡ 0 = omega arith in rw e (omega arith)
-getD-rising l (suc n) up i h =
+pub get_d-rising : (l : List ℕ) (n : ℕ) → ((i : ℕ) → i < n → get_or l i 0 ≤ get_or l (i + 1) 0) → (i : ℕ) → i ≤ n → get_or l i 0 ≤ get_or l n 0
+get_d-rising l zero up i h = let e : i ≡ 0 = omega arith in rw e (omega arith)
+get_d-rising l (suc n) up i h =
     by_order i n
-    (λ b. let next : n + 1 ≡ suc n = omega arith in omega (arith, getD-rising l n (λ j k. up j (omega arith)) i b, rw next at (up n (omega arith))))
+    (λ b. let next : n + 1 ≡ suc n = omega arith in omega (arith, get_d-rising l n (λ j k. up j (omega arith)) i b, rw next at (up n (omega arith))))
     (λ b. let e : i ≡ suc n = omega arith in rw e (omega arith))
 
 -- four words at a time: those at a place, and that fewer are left

@@ -18,16 +18,16 @@ left-none l = omega arith
 pub by_order : (a b : ℕ) {C : Type 0} → (a ≤ b → C) → (b < a → C) → C
 by_order a b l g = by-test (leb a b) (λ e. l (leb-true a b e)) (λ e. g (leb-false a b e))
 
-pub length-upFrom : (a k : ℕ) → length (up_from a k) ≡ k
+pub length-up_from : (a k : ℕ) → length (up_from a k) ≡ k
 unfolding up_from
-length-upFrom a zero = refl
-length-upFrom a (suc k) = ap suc (length-upFrom (suc a) k)
+length-up_from a zero = refl
+length-up_from a (suc k) = ap suc (length-up_from (suc a) k)
 
 -- the numbers that are left from one on
-pub upFrom-more : {i n : ℕ} → i < n → up_from i (n - i) ≡ i ∷ up_from (i + 1) (n - (i + 1))
+pub up_from-more : {i n : ℕ} → i < n → up_from i (n - i) ≡ i ∷ up_from (i + 1) (n - (i + 1))
 unfolding up_from
-upFrom-more {i} l = rw (left-more l, add-one i)
+up_from-more {i} l = rw (left-more l, add-one i)
 
-pub upFrom-none : {i n : ℕ} → n ≤ i → up_from i (n - i) ≡ []
+pub up_from-none : {i n : ℕ} → n ≤ i → up_from i (n - i) ≡ []
 unfolding up_from
-upFrom-none l = rw (left-none l)
+up_from-none l = rw (left-none l)

@@ -35,16 +35,16 @@ pub record ClauseStore : Type 0 where
   pub heads : List ℕ
   pub numbers : List ℕ
 
-abbrev pub clauseStore : List ℕ → List ℕ → List ℕ → List ℕ → ClauseStore
-clauseStore starts literals heads numbers = record { starts = starts; literals = literals; heads = heads; numbers = numbers }
+abbrev pub clause_store : List ℕ → List ℕ → List ℕ → List ℕ → ClauseStore
+clause_store starts literals heads numbers = record { starts = starts; literals = literals; heads = heads; numbers = numbers }
 
 -- the atom table: the code of each position's atom, and the position, from 1, of each code
 pub record AtomTable : Type 0 where
   pub codes : List ℕ
   pub index : List ℕ
 
-abbrev pub atomTable : List ℕ → List ℕ → AtomTable
-atomTable codes index = record { codes = codes; index = index }
+abbrev pub atom_table : List ℕ → List ℕ → AtomTable
+atom_table codes index = record { codes = codes; index = index }
 
 -- the trail: the value of each position's atom, and of each entry its literal's word and why it was set
 pub record TrailArrays : Type 0 where
@@ -52,28 +52,28 @@ pub record TrailArrays : Type 0 where
   pub words : List ℕ
   pub marks : List ℕ
 
-abbrev pub trailArrays : Values → List ℕ → List ℕ → TrailArrays
-trailArrays values words marks = record { values = values; words = words; marks = marks }
+abbrev pub trail_arrays : Values → List ℕ → List ℕ → TrailArrays
+trail_arrays values words marks = record { values = values; words = words; marks = marks }
 
 -- ── lent ──
 
-abbrev pub lentStore : Lent → Lent → Lent → Lent → Both ClauseStore ClauseStore
-lentStore starts literals heads numbers =
+abbrev pub lent_store : Lent → Lent → Lent → Lent → Both ClauseStore ClauseStore
+lent_store starts literals heads numbers =
     record {
-      entry = clauseStore starts.entry.now literals.entry.now heads.entry.now numbers.entry.now;
-      exit = clauseStore starts.exit.now literals.exit.now heads.exit.now numbers.exit.now;
+      entry = clause_store starts.entry.now literals.entry.now heads.entry.now numbers.entry.now;
+      exit = clause_store starts.exit.now literals.exit.now heads.exit.now numbers.exit.now;
     }
 
-abbrev pub lentArrays : Lent → Lent → Lent → Lent → Lent → Lent → Both Arrays Arrays
-lentArrays arities rules starts literals table index =
+abbrev pub lent_arrays : Lent → Lent → Lent → Lent → Lent → Lent → Both Arrays Arrays
+lent_arrays arities rules starts literals table index =
     record {
       entry = arrays arities.entry.now rules.entry.now starts.entry.now literals.entry.now table.entry.now index.entry.now;
       exit = arrays arities.exit.now rules.exit.now starts.exit.now literals.exit.now table.exit.now index.exit.now;
     }
 
-abbrev pub lentTrail : LentValues → Lent → Lent → Both TrailArrays TrailArrays
-lentTrail values trail marks =
+abbrev pub lent_trail : LentValues → Lent → Lent → Both TrailArrays TrailArrays
+lent_trail values trail marks =
     record {
-      entry = trailArrays values.entry.now trail.entry.now marks.entry.now;
-      exit = trailArrays values.exit.now trail.exit.now marks.exit.now;
+      entry = trail_arrays values.entry.now trail.entry.now marks.entry.now;
+      exit = trail_arrays values.exit.now trail.exit.now marks.exit.now;
     }

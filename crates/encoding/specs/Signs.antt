@@ -13,21 +13,21 @@ number_of w = record { negative = eqb (w % 2) 1; size = w / 2 }
 unfoldable pub numbers : ℕ → List ℕ → List Number
 numbers n row = map number_of (take n row)
 
-pub number_word : (negative : Bool) (size : ℕ) → number_of (word_of negative size) ≡ record { negative = negative; size = size }
+pub number_word_lem : (negative : Bool) (size : ℕ) → number_of (word_of negative size) ≡ record { negative = negative; size = size }
 unfolding word_of number_of
-number_word true size =
+number_word_lem true size =
     let e : (2 * size + 1) / 2 ≡ size = omega arith in
     cc (eq-eqb ((2 * size + 1) % 2) 1 (omega arith))
-number_word false size =
+number_word_lem false size =
     let e : (2 * size) / 2 ≡ size = omega arith in
     cc (ne_eqb ((2 * size) % 2) 1 (λ h. omega arith))
 
 -- ── words ──
 
-pub wordOf-half : (negative : Bool) (size : ℕ) → word_of negative size / 2 ≡ size
+pub word_of-half : (negative : Bool) (size : ℕ) → word_of negative size / 2 ≡ size
 unfolding word_of
-wordOf-half true size = omega arith
-wordOf-half false size = omega arith
+word_of-half true size = omega arith
+word_of-half false size = omega arith
 
 pub word_number : (negative : Bool) (n : ℕ) → word_of negative n ≡ 2 * n + word_of negative 0
 unfolding word_of

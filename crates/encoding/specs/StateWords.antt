@@ -7,144 +7,144 @@ use Rattle.std.proofs.Math.Bool.{true, false, and-true, and-false, and_assoc, an
 use Rattle.std.proofs.Math.ListN.{length-set}
 use Rattle.std.proofs.Math.Seq.{set_out}
 use borrow.Author.Tests.{eqb-true, eqb-false, ltb-true, ltb-false}
-use Rattle.bits.specs.Bits.{has, replaceBit, replaced-here, replaced-elsewhere, same_bits}
+use Rattle.bits.specs.Bits.{has, replace_bit, replaced-here, replaced-elsewhere, same_bits}
 use Rattle.definitions.specs.LiteralTest.{Value}
 use Rattle.theory.specs.Tests.{by-test}
-use Rattle.encoding.specs.Values.{Values, isTrueValue, isFalseValue, sameValue, setPlace, truePlace, bitIn, setBit, trueBit, state_of, value_at, storeBit, putState}
+use Rattle.encoding.specs.Values.{Values, is_true_value, is_false_value, same_value, set_place, true_place, bit_in, set_bit, true_bit, state_of, value_at, store_bit, put_state}
 
 -- ── a bit of a word ──
 
 module _ (values : Values) (at c b : ℕ) where
-  length-stored : length (storeBit values at c b) ≡ length values
-  unfolding storeBit
-  length-stored = length-set values at (replaceBit c b (get_or values at 0))
+  length-stored : length (store_bit values at c b) ≡ length values
+  unfolding store_bit
+  length-stored = length-set values at (replace_bit c b (get_or values at 0))
 
   module _ (small : b < 2) where
-    stored_here : at < length values → bitIn (storeBit values at c b) at c ≡ eqb b 1
-    unfolding storeBit
-    stored_here inside = ap (has c) (get_or-set_same values at (replaceBit c b (get_or values at 0)) 0 inside) ∙ replaced-here c b (get_or values at 0) small
+    stored_here : at < length values → bit_in (store_bit values at c b) at c ≡ eqb b 1
+    unfolding store_bit
+    stored_here inside = ap (has c) (get_or-set_same values at (replace_bit c b (get_or values at 0)) 0 inside) ∙ replaced-here c b (get_or values at 0) small
 
     -- another bit stays, in whatever word
-    stored-elsewhere : (k d : ℕ) → (k ≡ at → c ≡ d → ⊥) → bitIn (storeBit values at c b) k d ≡ bitIn values k d
-    unfolding storeBit
+    stored-elsewhere : (k d : ℕ) → (k ≡ at → c ≡ d → ⊥) → bit_in (store_bit values at c b) k d ≡ bit_in values k d
+    unfolding store_bit
     stored-elsewhere k d other =
         by-test (eqb k at)
         (λ e. let q = eqb-true k at e in
         rw q (by-test (ltb at (length values))
-        (λ i. ap (has d) (get_or-set_same values at (replaceBit c b (get_or values at 0)) 0 (ltb-true at (length values) i)) ∙ replaced-elsewhere c b (get_or values at 0) small d (other q))
-        (λ i. ap (λ (v : Values). bitIn v at d) (set_out values at (replaceBit c b (get_or values at 0)) (ltb-false at (length values) i)))))
-        (λ e. ap (has d) (get_or-set_other values at k (replaceBit c b (get_or values at 0)) 0 (eqb-false k at e)))
+        (λ i. ap (has d) (get_or-set_same values at (replace_bit c b (get_or values at 0)) 0 (ltb-true at (length values) i)) ∙ replaced-elsewhere c b (get_or values at 0) small d (other q))
+        (λ i. ap (λ (v : Values). bit_in v at d) (set_out values at (replace_bit c b (get_or values at 0)) (ltb-false at (length values) i)))))
+        (λ e. ap (has d) (get_or-set_other values at k (replace_bit c b (get_or values at 0)) 0 (eqb-false k at e)))
 
 -- ── both bits of a position ──
 
 module _ (values : Values) (i s t : ℕ) (small : s < 2) (little : t < 2) where
   abbrev first : Values
-  first = storeBit values (setPlace i) (i % 64) s
+  first = store_bit values (set_place i) (i % 64) s
 
   module _ (inside : i < 256) (size : length values ≡ 8) where
-    here-set : setBit (putState values i s t) i ≡ eqb s 1
-    unfolding setBit putState
+    here-set : set_bit (put_state values i s t) i ≡ eqb s 1
+    unfolding set_bit put_state
     here-set =
-        stored-elsewhere first (truePlace i) (i % 64) t little (setPlace i) (i % 64) (λ q d. absurd (omega (arith, q)))
-        ∙ stored_here values (setPlace i) (i % 64) s small (omega arith)
+        stored-elsewhere first (true_place i) (i % 64) t little (set_place i) (i % 64) (λ q d. absurd (omega (arith, q)))
+        ∙ stored_here values (set_place i) (i % 64) s small (omega arith)
 
-    here-true : trueBit (putState values i s t) i ≡ eqb t 1
-    unfolding trueBit putState
-    here-true = stored_here first (truePlace i) (i % 64) t little (omega (arith, length-stored values (setPlace i) (i % 64) s))
+    here-true : true_bit (put_state values i s t) i ≡ eqb t 1
+    unfolding true_bit put_state
+    here-true = stored_here first (true_place i) (i % 64) t little (omega (arith, length-stored values (set_place i) (i % 64) s))
 
-    pub state-here : value_at (putState values i s t) i ≡ state_of (eqb s 1) (eqb t 1)
+    pub state-here : value_at (put_state values i s t) i ≡ state_of (eqb s 1) (eqb t 1)
     unfolding value_at
     state-here = rw (here-set, here-true)
 
   module _ (j : ℕ) (other : i ≡ j → ⊥) where
-    there-set : setBit (putState values i s t) j ≡ setBit values j
-    unfolding setBit putState
+    there-set : set_bit (put_state values i s t) j ≡ set_bit values j
+    unfolding set_bit put_state
     there-set =
-        stored-elsewhere first (truePlace i) (i % 64) t little (setPlace j) (j % 64) (λ q d. absurd (omega (arith, q)))
-        ∙ stored-elsewhere values (setPlace i) (i % 64) s small (setPlace j) (j % 64) (λ q d. other (omega (arith, q, d)))
+        stored-elsewhere first (true_place i) (i % 64) t little (set_place j) (j % 64) (λ q d. absurd (omega (arith, q)))
+        ∙ stored-elsewhere values (set_place i) (i % 64) s small (set_place j) (j % 64) (λ q d. other (omega (arith, q, d)))
 
-    there-true : trueBit (putState values i s t) j ≡ trueBit values j
-    unfolding trueBit putState
+    there-true : true_bit (put_state values i s t) j ≡ true_bit values j
+    unfolding true_bit put_state
     there-true =
-        stored-elsewhere first (truePlace i) (i % 64) t little (truePlace j) (j % 64) (λ q d. other (omega (arith, q, d)))
-        ∙ stored-elsewhere values (setPlace i) (i % 64) s small (truePlace j) (j % 64) (λ q d. absurd (omega (arith, q)))
+        stored-elsewhere first (true_place i) (i % 64) t little (true_place j) (j % 64) (λ q d. other (omega (arith, q, d)))
+        ∙ stored-elsewhere values (set_place i) (i % 64) s small (true_place j) (j % 64) (λ q d. absurd (omega (arith, q)))
 
-    pub state-elsewhere : value_at (putState values i s t) j ≡ value_at values j
+    pub state-elsewhere : value_at (put_state values i s t) j ≡ value_at values j
     unfolding value_at
     state-elsewhere = rw (there-set, there-true)
 
-pub length-put : (values : Values) (i s t : ℕ) → length (putState values i s t) ≡ length values
-unfolding putState
+pub length-put : (values : Values) (i s t : ℕ) → length (put_state values i s t) ≡ length values
+unfolding put_state
 length-put values i s t =
-    length-stored (storeBit values (setPlace i) (i % 64) s) (truePlace i) (i % 64) t ∙ length-stored values (setPlace i) (i % 64) s
+    length-stored (store_bit values (set_place i) (i % 64) s) (true_place i) (i % 64) t ∙ length-stored values (set_place i) (i % 64) s
 
 -- ── words with the same bits ──
 
-pub same-values : (v u : Values) → length v ≡ length u → ((k c : ℕ) → k < length v → bitIn v k c ≡ bitIn u k c) → v ≡ u
+pub same-values : (v u : Values) → length v ≡ length u → ((k c : ℕ) → k < length v → bit_in v k c ≡ bit_in u k c) → v ≡ u
 same-values v u sizes same = ext_get_or 0 v u sizes (λ k l. same_bits (get_or v k 0) (get_or u k 0) (λ c. same k c l))
 
 -- ── positions are unset in any order ──
 
 -- bit d of word k is not bit c of this word, and is neither bit of a position
-abbrev otherThan : ℕ → ℕ → ℕ → ℕ → Bool
-otherThan at c k d = not (eqb k at && eqb c d)
+abbrev other_than : ℕ → ℕ → ℕ → ℕ → Bool
+other_than at c k d = not (eqb k at && eqb c d)
 
 abbrev left : ℕ → ℕ → ℕ → Bool
-left i k d = otherThan (setPlace i) (i % 64) k d && otherThan (truePlace i) (i % 64) k d
+left i k d = other_than (set_place i) (i % 64) k d && other_than (true_place i) (i % 64) k d
 
-bit-taken : (values : Values) (at c k d : ℕ) → k < length values → bitIn (storeBit values at c 0) k d ≡ (bitIn values k d && otherThan at c k d)
+bit-taken : (values : Values) (at c k d : ℕ) → k < length values → bit_in (store_bit values at c 0) k d ≡ (bit_in values k d && other_than at c k d)
 bit-taken values at c k d inside =
     by-test (eqb k at)
     (λ e. by-test (eqb c d)
     (λ f. let q = eqb-true k at e in
     let r = eqb-true c d f in
-    rw (e, f, and-false (bitIn values k d)) (rw (q, ← r) (stored_here values at c 0 (omega arith) (omega arith))))
-    (λ f. rw (e, f, and-true (bitIn values k d)) (stored-elsewhere values at c 0 (omega arith) k d (λ q r. eqb-false c d f r))))
-    (λ e. rw (e, and-true (bitIn values k d)) (stored-elsewhere values at c 0 (omega arith) k d (λ q r. eqb-false k at e q)))
+    rw (e, f, and-false (bit_in values k d)) (rw (q, ← r) (stored_here values at c 0 (omega arith) (omega arith))))
+    (λ f. rw (e, f, and-true (bit_in values k d)) (stored-elsewhere values at c 0 (omega arith) k d (λ q r. eqb-false c d f r))))
+    (λ e. rw (e, and-true (bit_in values k d)) (stored-elsewhere values at c 0 (omega arith) k d (λ q r. eqb-false k at e q)))
 
-state-taken : (values : Values) (i k d : ℕ) → k < length values → bitIn (putState values i 0 0) k d ≡ (bitIn values k d && left i k d)
-unfolding putState
+state-taken : (values : Values) (i k d : ℕ) → k < length values → bit_in (put_state values i 0 0) k d ≡ (bit_in values k d && left i k d)
+unfolding put_state
 state-taken values i k d inside =
-    bit-taken (storeBit values (setPlace i) (i % 64) 0) (truePlace i) (i % 64) k d (omega (arith, length-stored values (setPlace i) (i % 64) 0))
-    ∙ rw (bit-taken values (setPlace i) (i % 64) k d inside) (and_assoc (bitIn values k d) (otherThan (setPlace i) (i % 64) k d) (otherThan (truePlace i) (i % 64) k d))
+    bit-taken (store_bit values (set_place i) (i % 64) 0) (true_place i) (i % 64) k d (omega (arith, length-stored values (set_place i) (i % 64) 0))
+    ∙ rw (bit-taken values (set_place i) (i % 64) k d inside) (and_assoc (bit_in values k d) (other_than (set_place i) (i % 64) k d) (other_than (true_place i) (i % 64) k d))
 
-states-taken : (values : Values) (i j k d : ℕ) → k < length values → bitIn (putState (putState values i 0 0) j 0 0) k d ≡ (bitIn values k d && (left i k d && left j k d))
+states-taken : (values : Values) (i j k d : ℕ) → k < length values → bit_in (put_state (put_state values i 0 0) j 0 0) k d ≡ (bit_in values k d && (left i k d && left j k d))
 states-taken values i j k d inside =
-    state-taken (putState values i 0 0) j k d (omega (arith, length-put values i 0 0))
-    ∙ rw (state-taken values i k d inside) (and_assoc (bitIn values k d) (left i k d) (left j k d))
+    state-taken (put_state values i 0 0) j k d (omega (arith, length-put values i 0 0))
+    ∙ rw (state-taken values i k d inside) (and_assoc (bit_in values k d) (left i k d) (left j k d))
 
-pub taken-either : (values : Values) (i j : ℕ) → putState (putState values i 0 0) j 0 0 ≡ putState (putState values j 0 0) i 0 0
+pub taken-either : (values : Values) (i j : ℕ) → put_state (put_state values i 0 0) j 0 0 ≡ put_state (put_state values j 0 0) i 0 0
 taken-either values i j =
-    let size = length-put (putState values i 0 0) j 0 0 ∙ length-put values i 0 0 in
-    same-values (putState (putState values i 0 0) j 0 0) (putState (putState values j 0 0) i 0 0)
-    (size ∙ sym (length-put (putState values j 0 0) i 0 0 ∙ length-put values j 0 0))
+    let size = length-put (put_state values i 0 0) j 0 0 ∙ length-put values i 0 0 in
+    same-values (put_state (put_state values i 0 0) j 0 0) (put_state (put_state values j 0 0) i 0 0)
+    (size ∙ sym (length-put (put_state values j 0 0) i 0 0 ∙ length-put values j 0 0))
     (λ k d l. let inside : k < length values = omega (arith, size) in
     states-taken values i j k d inside ∙ rw (and_comm (left i k d) (left j k d)) (sym (states-taken values j i k d inside)))
 
 -- ── a state tells both bits ──
 
-unfoldable pub tellsSet : Value → Bool
-tellsSet v = isTrueValue v || isFalseValue v
+unfoldable pub tells_set : Value → Bool
+tells_set v = is_true_value v || is_false_value v
 
-unfoldable pub tellsTrue : Value → Bool
-tellsTrue v = isTrueValue v || sameValue v (state_of false true)
+unfoldable pub tells_true : Value → Bool
+tells_true v = is_true_value v || same_value v (state_of false true)
 
 module _ (values : Values) (i : ℕ) where
-  pub set_told : setBit values i ≡ tellsSet (value_at values i)
-  unfolding value_at tellsSet state_of isTrueValue isFalseValue sameValue
-  set_told = told (setBit values i) (trueBit values i)
+  pub set_told : set_bit values i ≡ tells_set (value_at values i)
+  unfolding value_at tells_set state_of is_true_value is_false_value same_value
+  set_told = told (set_bit values i) (true_bit values i)
     where
-      told : (s t : Bool) → s ≡ tellsSet (state_of s t)
+      told : (s t : Bool) → s ≡ tells_set (state_of s t)
       told true true = refl
       told true false = refl
       told false true = refl
       told false false = refl
 
-  pub true-told : trueBit values i ≡ tellsTrue (value_at values i)
-  unfolding value_at tellsTrue state_of isTrueValue sameValue
-  true-told = told (setBit values i) (trueBit values i)
+  pub true-told : true_bit values i ≡ tells_true (value_at values i)
+  unfolding value_at tells_true state_of is_true_value same_value
+  true-told = told (set_bit values i) (true_bit values i)
     where
-      told : (s t : Bool) → t ≡ tellsTrue (state_of s t)
+      told : (s t : Bool) → t ≡ tells_true (state_of s t)
       told true true = refl
       told true false = refl
       told false true = refl

@@ -6,25 +6,25 @@ use Rattle.std.proofs.lemmas.List.{length-replicate}
 use Rattle.std.proofs.lemmas.Bool.{eqb-false}
 use Rattle.std.specs.Int.{w32}
 use Rattle.std.proofs.Math.Facts.{sfits_lit}
-use Rattle.definitions.specs.LiteralTest.{Value, unsetValue, trueValue, falseValue}
+use Rattle.definitions.specs.LiteralTest.{Value, unset_value, true_value, false_value}
 use Rattle.theory.specs.Tests.{by-test}
-use Rattle.encoding.specs.ArrayLaws.{getD-repeated}
+use Rattle.encoding.specs.ArrayLaws.{get_d-repeated}
 use Rattle.bits.specs.Bits.{has-zero}
-use Rattle.encoding.specs.Values.{Values, sameValue, isTrueValue, isFalseValue, setPlace, truePlace, setBit, trueBit, state_of, value_at, wordSign, otherSign, noValues, assigned, unassigned}
+use Rattle.encoding.specs.Values.{Values, same_value, is_true_value, is_false_value, set_place, true_place, set_bit, true_bit, state_of, value_at, word_sign, other_sign, no_values, assigned, unassigned}
 use Rattle.encoding.specs.StateWords.{state-here, state-elsewhere, length-put, taken-either}
 
 -- ── the tests of a value, by its bits: they are what the machine compares ──
 
-same-value : (v u : Value) → v ≡ u → sameValue v u ≡ true
-unfolding sameValue
+same-value : (v u : Value) → v ≡ u → same_value v u ≡ true
+unfolding same_value
 same-value v u e = rw e (itself u)
   where
-    itself : (u : Value) → sameValue u u ≡ true
+    itself : (u : Value) → same_value u u ≡ true
     itself (pos n) = eq-eqb n n refl
     itself (negsuc n) = eq-eqb n n refl
 
-other-value : (v u : Value) → (v ≡ u → ⊥) → sameValue v u ≡ false
-unfolding sameValue
+other-value : (v u : Value) → (v ≡ u → ⊥) → same_value v u ≡ false
+unfolding same_value
 other-value (pos m) (pos n) other = ne_eqb m n (λ e. other (ap pos e))
 other-value (pos m) (negsuc n) other = refl
 other-value (negsuc m) (pos n) other = refl
@@ -35,61 +35,61 @@ module _ {v : Value} (fits : SFits w32 v) where
     bits-equal : of_z w32 v ≡ of_z w32 u → v ≡ u
     bits-equal e = sym (to_z-of_z fits) ∙ ap (to_z w32) e ∙ to_z-of_z its
 
-    bits-same : eqb (of_z w32 v) (of_z w32 u) ≡ sameValue v u
+    bits-same : eqb (of_z w32 v) (of_z w32 u) ≡ same_value v u
     bits-same =
         by-test (eqb (of_z w32 v) (of_z w32 u))
         (λ e. e ∙ sym (same-value v u (bits-equal (eqb-true (of_z w32 v) (of_z w32 u) e))))
         (λ e. e ∙ sym (other-value v u (λ q. eqb-false (of_z w32 v) (of_z w32 u) e (ap (of_z w32) q))))
 
-  pub bits-true : eqb (of_z w32 v) (of_z w32 trueValue) ≡ isTrueValue v
-  unfolding isTrueValue
-  bits-true = bits-same trueValue (sfits_lit tt)
+  pub bits-true : eqb (of_z w32 v) (of_z w32 true_value) ≡ is_true_value v
+  unfolding is_true_value
+  bits-true = bits-same true_value (sfits_lit tt)
 
-  pub bits-false : eqb (of_z w32 v) (of_z w32 falseValue) ≡ isFalseValue v
-  unfolding isFalseValue
-  bits-false = bits-same falseValue (sfits_lit tt)
+  pub bits-false : eqb (of_z w32 v) (of_z w32 false_value) ≡ is_false_value v
+  unfolding is_false_value
+  bits-false = bits-same false_value (sfits_lit tt)
 
 -- ── a literal's sign ──
 
-pub even-sign : (w : ℕ) → w % 2 ≡ 0 → wordSign w ≡ pos 1
-unfolding wordSign
+pub even-sign : (w : ℕ) → w % 2 ≡ 0 → word_sign w ≡ pos 1
+unfolding word_sign
 even-sign w e = cc
 
-pub odd_sign : (w : ℕ) → w % 2 ≡ 1 → wordSign w ≡ negsuc 0
-unfolding wordSign
+pub odd_sign : (w : ℕ) → w % 2 ≡ 1 → word_sign w ≡ negsuc 0
+unfolding word_sign
 odd_sign w e = cc
 
 -- what holds of 1 and of -1 holds of a sign
-pub by_sign : (w : ℕ) (P : ℤ → Type 0) → P (pos 1) → P (negsuc 0) → P (wordSign w)
-unfolding wordSign
-by_sign w P a b = by-test (eqb (w % 2) 0) (λ e. rw (e, wordSign) a) (λ e. rw (e, wordSign) b)
+pub by_sign : (w : ℕ) (P : ℤ → Type 0) → P (pos 1) → P (negsuc 0) → P (word_sign w)
+unfolding word_sign
+by_sign w P a b = by-test (eqb (w % 2) 0) (λ e. rw (e, word_sign) a) (λ e. rw (e, word_sign) b)
 
-pub other-even : (w : ℕ) → w % 2 ≡ 0 → w + 1 ≡ otherSign w
-unfolding otherSign
-other-even w e = rw (eq-eqb (w % 2) 0 e, otherSign)
+pub other-even : (w : ℕ) → w % 2 ≡ 0 → w + 1 ≡ other_sign w
+unfolding other_sign
+other-even w e = rw (eq-eqb (w % 2) 0 e, other_sign)
 
-pub other-odd : (w : ℕ) → (w % 2 ≡ 0 → ⊥) → w - 1 ≡ otherSign w
-unfolding otherSign
-other-odd w n = rw (ne_eqb (w % 2) 0 n, otherSign)
+pub other-odd : (w : ℕ) → (w % 2 ≡ 0 → ⊥) → w - 1 ≡ other_sign w
+unfolding other_sign
+other-odd w n = rw (ne_eqb (w % 2) 0 n, other_sign)
 
 -- ── setting and unsetting ──
 
 module _ (values : Values) (p : ℕ) (inside : p < 256) (size : length values ≡ 8) where
-  pub assigned-even : value_at (assigned values (2 * p)) p ≡ trueValue
+  pub assigned-even : value_at (assigned values (2 * p)) p ≡ true_value
   unfolding assigned state_of
   assigned-even =
       let f : (2 * p) / 2 ≡ p = omega arith in
       let g : 1 - (2 * p) % 2 ≡ 1 = omega arith in
       rw (f, g) (state-here values p 1 1 (omega arith) (omega arith) inside size)
 
-  pub assigned-odd : value_at (assigned values (2 * p + 1)) p ≡ falseValue
+  pub assigned-odd : value_at (assigned values (2 * p + 1)) p ≡ false_value
   unfolding assigned state_of
   assigned-odd =
       let f : (2 * p + 1) / 2 ≡ p = omega arith in
       let g : 1 - (2 * p + 1) % 2 ≡ 0 = omega arith in
       rw (f, g) (state-here values p 1 0 (omega arith) (omega arith) inside size)
 
-  pub unassigned-here : (w : ℕ) → w / 2 ≡ p → value_at (unassigned values w) p ≡ unsetValue
+  pub unassigned-here : (w : ℕ) → w / 2 ≡ p → value_at (unassigned values w) p ≡ unset_value
   unfolding unassigned state_of
   unassigned-here w q = rw q (state-here values p 0 0 (omega arith) (omega arith) inside size)
 
@@ -115,9 +115,9 @@ pub unassigned-either : (values : Values) (v w : ℕ) → unassigned (unassigned
 unfolding unassigned
 unassigned-either values v w = taken-either values (v / 2) (w / 2)
 
-pub length_none : length noValues ≡ 8
+pub length_none : length no_values ≡ 8
 length_none = length-replicate {A = ℕ} 8 0
 
-pub no_value : (p : ℕ) → value_at noValues p ≡ unsetValue
-unfolding value_at setBit trueBit state_of
-no_value p = rw (getD-repeated {A = ℕ} 0 8 (setPlace p), getD-repeated {A = ℕ} 0 8 (truePlace p), has-zero (p % 64))
+pub no_value : (p : ℕ) → value_at no_values p ≡ unset_value
+unfolding value_at set_bit true_bit state_of
+no_value p = rw (get_d-repeated {A = ℕ} 0 8 (set_place p), get_d-repeated {A = ℕ} 0 8 (true_place p), has-zero (p % 64))

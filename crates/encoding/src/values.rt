@@ -1,7 +1,7 @@
 // The states of atoms by table position, and what they say of a literal: unset is 0, true 1 and false -1. They are kept in pairs of words, each
 // for 64 positions: which atoms are set, and which of them are true. The first pair has the goal atoms. Where a bit stands is this module's alone.
 ghost use Rattle.std.specs.Prelude.{◌≡◌, ◌/◌, ◌<◌, ◌^◌, eqb};
-ghost use Rattle.encoding.specs.Values.{goalsSet, bitIn, state_of, value_at, unsetAt, wordSign, otherSign, literalValue, trueWord, falseWord, storeBit, putState, assigned, unassigned};
+ghost use Rattle.encoding.specs.Values.{goals_set, bit_in, state_of, value_at, unset_at, word_sign, other_sign, literal_value, true_word, false_word, store_bit, put_state, assigned, unassigned};
 
 use crate::wide;
 use bits::long;
@@ -26,14 +26,14 @@ fn atom_position(w: u16) -> usize
 
 // A literal's sign: 1, or -1 where it is negated.
 fn sign(w: u16) -> Value
-    ensures { result ≡ wordSign w }
+    ensures { result ≡ word_sign w }
 {
     1 - 2 * ((w % 2) as Value)
 }
 
 // The word of a literal's negation.
 pub fn other_sign(w: u16) -> u16
-    ensures { result ≡ otherSign w }
+    ensures { result ≡ other_sign w }
 {
     if w % 2 == 0 {
         return w + 1;
@@ -52,7 +52,7 @@ fn state_of(set: u64, truth: u64) -> Value
 // A bit of one of the words, as 0 or 1.
 fn bit_in(values: &Values, at: usize, c: usize) -> u64
     requires { (at < 8) × (c < 64) }
-    ensures { (eqb result 1 ≡ bitIn values.now at c) × (result < 2) }
+    ensures { (eqb result 1 ≡ bit_in values.now at c) × (result < 2) }
 {
     long::bit(values[at], c)
 }
@@ -73,21 +73,21 @@ fn state_at(values: &Values, at: usize) -> Value
 // The literal test: the product of a literal's sign and its atom's state, with no branch on either.
 pub fn value(values: &Values, w: u16) -> Value
     requires { w < 512 }
-    ensures { result ≡ literalValue values.now w }
+    ensures { result ≡ literal_value values.now w }
 {
     sign(w) * state_at(values, atom_position(w))
 }
 
 pub fn is_true(values: &Values, w: u16) -> bool
     requires { w < 512 }
-    ensures { result ≡ trueWord values.now w }
+    ensures { result ≡ true_word values.now w }
 {
     value(values, w) == TRUE
 }
 
 pub fn is_false(values: &Values, w: u16) -> bool
     requires { w < 512 }
-    ensures { result ≡ falseWord values.now w }
+    ensures { result ≡ false_word values.now w }
 {
     value(values, w) == FALSE
 }
@@ -95,7 +95,7 @@ pub fn is_false(values: &Values, w: u16) -> bool
 // Whether the atom at a position is unset.
 pub fn is_unset(values: &Values, at: usize) -> bool
     requires { at < 256 }
-    ensures { result ≡ unsetAt values.now at }
+    ensures { result ≡ unset_at values.now at }
 {
     let pair = 2 * (at / 64);
     let place = at % 64;
@@ -104,7 +104,7 @@ pub fn is_unset(values: &Values, at: usize) -> bool
 
 // The goal atoms that are set, a bit for each.
 pub fn goals_set(values: &Values) -> u64
-    ensures { (result ≡ goalsSet values.now) × (result < 2 ^ 64) }
+    ensures { (result ≡ goals_set values.now) × (result < 2 ^ 64) }
 {
     long::word(values[0])
 }
@@ -112,7 +112,7 @@ pub fn goals_set(values: &Values) -> u64
 // Replaces a bit of one of the words, by 0 or 1.
 fn store_bit(values: &mut Values, at: usize, c: usize, b: u64)
     requires { (at < 8) × (c < 64) × (b < 2) }
-    ensures { values.new ≡ storeBit values.old at c b }
+    ensures { values.new ≡ store_bit values.old at c b }
 {
     values[at] = long::replace_bit(values[at], c, b);
 }
@@ -120,7 +120,7 @@ fn store_bit(values: &mut Values, at: usize, c: usize, b: u64)
 // Replaces both bits of a position.
 fn put_state(values: &mut Values, at: usize, set: u64, truth: u64)
     requires { (at < 256) × (set < 2) × (truth < 2) }
-    ensures { values.new ≡ putState values.old at set truth }
+    ensures { values.new ≡ put_state values.old at set truth }
 {
     let pair = 2 * (at / 64);
     let next = pair + 1;

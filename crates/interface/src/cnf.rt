@@ -2,10 +2,10 @@
 ghost use Rattle.std.specs.Prelude.{◌≤◌, ◌≡◌, [], length};
 ghost use Rattle.std.proofs.lemmas.List.Edits.{sets};
 ghost use Rattle.definitions.specs.Call.{values as values_of};
-ghost use Rattle.definitions.specs.Dimacs.{readCnf};
-ghost use Rattle.definitions.specs.Export.{exportCall, exportText, roomAfterExport, exportAfter};
-ghost use Rattle.cnf_reader.specs.CnfArrays.{cnfRead, cnfValues};
-ghost use Rattle.interface.specs.Handed.{lentOr, fivePlaces, cnfLent, unlessRefused};
+ghost use Rattle.definitions.specs.Dimacs.{read_cnf};
+ghost use Rattle.definitions.specs.Export.{export_call, export_text, room_after_export, export_after};
+ghost use Rattle.cnf_reader.specs.CnfArrays.{cnf_read, cnf_values};
+ghost use Rattle.interface.specs.Handed.{lent_or, five_places, cnf_lent, unless_refused};
 
 use crate::{PLACES, put_values};
 use cnf_reader::{CnfAnswer, CnfRead};
@@ -23,10 +23,10 @@ pub extern "C" fn thunyaworm_export(
     cnf: &mut [u8],
     places: &mut [u64],
 ) -> usize
-    ensures { (result ≡ length (lentOr (fivePlaces places.old) (exportText sheet.now budget room.old cnf.old) []))
-        × (places.new ≡ sets places.old 0 (lentOr (fivePlaces places.old) (values_of (exportCall sheet.now budget room.old cnf.old)) []))
-        × (room.new ≡ lentOr (fivePlaces places.old) (roomAfterExport sheet.now budget room.old cnf.old) room.old)
-        × (cnf.new ≡ lentOr (fivePlaces places.old) (exportAfter sheet.now budget room.old cnf.old) cnf.old) }
+    ensures { (result ≡ length (lent_or (five_places places.old) (export_text sheet.now budget room.old cnf.old) []))
+        × (places.new ≡ sets places.old 0 (lent_or (five_places places.old) (values_of (export_call sheet.now budget room.old cnf.old)) []))
+        × (room.new ≡ lent_or (five_places places.old) (room_after_export sheet.now budget room.old cnf.old) room.old)
+        × (cnf.new ≡ lent_or (five_places places.old) (export_after sheet.now budget room.old cnf.old) cnf.old) }
 {
     if places.len() < PLACES {
         return 0;
@@ -53,9 +53,9 @@ fn put_words(to: &mut [u16], words: &[u16])
 fn put_read(read: CnfRead, starts: &mut [u16], literals: &mut [u16], places: &mut [u64]) -> usize
     requires { (577 ≤ length starts.old) × (4608 ≤ length literals.old) × (3 ≤ length places.old)
         × (length read.starts ≡ 577) × (length read.literals ≡ 4608) }
-    ensures { (result ≡ length (cnfValues read.answer)) × (places.new ≡ sets places.old 0 (cnfValues read.answer))
-        × (starts.new ≡ sets starts.old 0 (unlessRefused read.answer read.starts))
-        × (literals.new ≡ sets literals.old 0 (unlessRefused read.answer read.literals)) }
+    ensures { (result ≡ length (cnf_values read.answer)) × (places.new ≡ sets places.old 0 (cnf_values read.answer))
+        × (starts.new ≡ sets starts.old 0 (unless_refused read.answer read.starts))
+        × (literals.new ≡ sets literals.old 0 (unless_refused read.answer read.literals)) }
 {
     let answer = read.answer;
     match answer {
@@ -85,12 +85,12 @@ pub extern "C" fn thunyaworm_read_cnf(
     literals: &mut [u16],
     places: &mut [u64],
 ) -> usize
-    ensures { (result ≡ length (lentOr (cnfLent starts.old literals.old places.old) (cnfValues (cnfRead (readCnf text.now)).answer) []))
-        × (places.new ≡ sets places.old 0 (lentOr (cnfLent starts.old literals.old places.old) (cnfValues (cnfRead (readCnf text.now)).answer) []))
-        × (starts.new ≡ sets starts.old 0 (lentOr (cnfLent starts.old literals.old places.old)
-        (unlessRefused (cnfRead (readCnf text.now)).answer (cnfRead (readCnf text.now)).starts) []))
-        × (literals.new ≡ sets literals.old 0 (lentOr (cnfLent starts.old literals.old places.old)
-        (unlessRefused (cnfRead (readCnf text.now)).answer (cnfRead (readCnf text.now)).literals) [])) }
+    ensures { (result ≡ length (lent_or (cnf_lent starts.old literals.old places.old) (cnf_values (cnf_read (read_cnf text.now)).answer) []))
+        × (places.new ≡ sets places.old 0 (lent_or (cnf_lent starts.old literals.old places.old) (cnf_values (cnf_read (read_cnf text.now)).answer) []))
+        × (starts.new ≡ sets starts.old 0 (lent_or (cnf_lent starts.old literals.old places.old)
+        (unless_refused (cnf_read (read_cnf text.now)).answer (cnf_read (read_cnf text.now)).starts) []))
+        × (literals.new ≡ sets literals.old 0 (lent_or (cnf_lent starts.old literals.old places.old)
+        (unless_refused (cnf_read (read_cnf text.now)).answer (cnf_read (read_cnf text.now)).literals) [])) }
 {
     if starts.len() < cnf_reader::STARTS {
         return 0;

@@ -3,8 +3,8 @@ mod cnf; // cnf.rt: the export call, and the reader of DIMACS CNF
 
 ghost use Rattle.std.specs.Prelude.{◌≤◌, ◌≡◌, [], length};
 ghost use Rattle.std.proofs.lemmas.List.Edits.{sets};
-ghost use Rattle.definitions.specs.Call.{call, listedPart, roomAfter, written, printedPart, values as values_of};
-ghost use Rattle.interface.specs.Handed.{lentOr, fivePlaces};
+ghost use Rattle.definitions.specs.Call.{call, listed_part, room_after, written, printed_part, values as values_of};
+ghost use Rattle.interface.specs.Handed.{lent_or, five_places};
 
 use definitions::Answer;
 
@@ -44,9 +44,9 @@ pub extern "C" fn thunyaworm_solve(
     room: &mut [u8],
     places: &mut [u64],
 ) -> usize
-    ensures { (result ≡ length (lentOr (fivePlaces places.old) (values_of (call sheet.now budget room.old)) []))
-        × (places.new ≡ sets places.old 0 (lentOr (fivePlaces places.old) (values_of (call sheet.now budget room.old)) []))
-        × (room.new ≡ lentOr (fivePlaces places.old) (roomAfter sheet.now budget room.old) room.old) }
+    ensures { (result ≡ length (lent_or (five_places places.old) (values_of (call sheet.now budget room.old)) []))
+        × (places.new ≡ sets places.old 0 (lent_or (five_places places.old) (values_of (call sheet.now budget room.old)) []))
+        × (room.new ≡ lent_or (five_places places.old) (room_after sheet.now budget room.old) room.old) }
 {
     if places.len() < PLACES {
         return 0;
@@ -58,8 +58,8 @@ pub extern "C" fn thunyaworm_solve(
 // The second call: how many bytes at the front of the room hold the listing.
 #[unsafe(no_mangle)]
 pub extern "C" fn thunyaworm_listing(sheet: &[u8], budget: u32, room: &mut [u8]) -> usize
-    ensures { (result ≡ length (listedPart sheet.now budget room.old))
-        × (room.new ≡ roomAfter sheet.now budget room.old) }
+    ensures { (result ≡ length (listed_part sheet.now budget room.old))
+        × (room.new ≡ room_after sheet.now budget room.old) }
 {
     let listed = solver::list(sheet, budget, room);
     listed
@@ -69,8 +69,8 @@ pub extern "C" fn thunyaworm_listing(sheet: &[u8], budget: u32, room: &mut [u8])
 // of fewer than 45,056 bytes nothing is done, and 0 is handed back.
 #[unsafe(no_mangle)]
 pub extern "C" fn thunyaworm_print(sheet: &[u8], budget: u32, room: &mut [u8]) -> usize
-    ensures { (result ≡ length (printedPart sheet.now budget room.old))
-        × (room.new ≡ written (printedPart sheet.now budget room.old) room.old) }
+    ensures { (result ≡ length (printed_part sheet.now budget room.old))
+        × (room.new ≡ written (printed_part sheet.now budget room.old) room.old) }
 {
     let printed = solver::print(sheet, budget, room);
     printed

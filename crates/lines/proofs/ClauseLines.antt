@@ -10,16 +10,16 @@ use Rattle.definitions.specs.Lists.{is_empty}
 use Rattle.definitions.specs.Words.{Clause, Pattern}
 use Rattle.definitions.specs.Instances.{ground}
 use Rattle.definitions.specs.Sheet.{Number}
-use Rattle.definitions.specs.Questions.{Asked, no, yes, ◌>>=◌, ◌>>◌, ask, Parsed, within, literals, patternOf, clauseCount, clauseBehind, clauseAsked}
+use Rattle.definitions.specs.Questions.{Asked, no, yes, ◌>>=◌, ◌>>◌, ask, Parsed, within, literals, pattern_of, clause_count, clause_behind, clause_asked}
 use Rattle.theory.specs.ListLaws.{Each}
 use Rattle.theory.specs.AskedLaws.{by-asked}
 use Rattle.theory.specs.Limits.{within-between}
 use Rattle.encoding.specs.Signs.{number_of, numbers}
 use Rattle.literals.specs.SlotReads.{argument, SlotsRead}
-use Rattle.encoding.specs.Slots.{slotWords}
+use Rattle.encoding.specs.Slots.{slot_words}
 use Rattle.literals.specs.SlotReadLaws.{literals-length, clause-literals, PatternRead, patterns-read}
-use Rattle.literals.specs.Entering.{ClauseSlots, Entered, entered, enterSlots}
-use Rattle.lines.specs.LineReads.{moreClauses, clauseEntered, clauseAnswer, ClauseRead}
+use Rattle.literals.specs.Entering.{ClauseSlots, Entered, entered, enter_slots}
+use Rattle.lines.specs.LineReads.{more_clauses, clause_entered, clause_answer, ClauseRead}
 use Rattle.encoding.specs.declared.Sizes.{Sizes}
 use Rattle.lines.specs.declared.LineRead.{LineRead}
 use Rattle.lines.specs.declared.LineRead.TheVariants.{No, Yes}
@@ -33,27 +33,27 @@ clause-refused s a b c d e f g h p = rw p refl
 
 -- ── the count ──
 
-abbrev pub clauseOfRow : ℕ → List ℕ → ℕ → List ℕ → ℕ → Asked Clause
-clauseOfRow n row constants arities clauses = clauseAsked constants arities clauses (drop 1 (numbers n row))
+abbrev pub clause_of_row : ℕ → List ℕ → ℕ → List ℕ → ℕ → Asked Clause
+clause_of_row n row constants arities clauses = clause_asked constants arities clauses (drop 1 (numbers n row))
 
 module _ (n : ℕ) (row : List ℕ) (constants : ℕ) (arities : List ℕ) (clauses : ℕ) where
-  pub literals-missing : n < 2 → clauseOfRow n row constants arities clauses ≡ no 8
-  unfolding clauseAsked clauseCount ◌>>=◌
+  pub literals-missing : n < 2 → clause_of_row n row constants arities clauses ≡ no 8
+  unfolding clause_asked clause_count ◌>>=◌
   literals-missing h = rw (count-missing n row 1 8 0 8 (omega arith))
 
   module _ (fits : n ≤ length row) (two : 2 ≤ n) where
-    pub literals-out : within 0 8 (number_of (get_or row 1 0)) ≡ false → clauseOfRow n row constants arities clauses ≡ no 8
-    unfolding clauseAsked clauseCount ◌>>=◌
+    pub literals-out : within 0 8 (number_of (get_or row 1 0)) ≡ false → clause_of_row n row constants arities clauses ≡ no 8
+    unfolding clause_asked clause_count ◌>>=◌
     literals-out h = rw (count-out n row 1 8 0 8 fits (omega arith) h)
 
     module _ (read : within 0 8 (number_of (get_or row 1 0)) ≡ true) where
-      pub clauses-full : clauses ≡ 64 → clauseOfRow n row constants arities clauses ≡ no 9
-      unfolding clauseAsked clauseCount ask ◌>>=◌ ◌>>◌
+      pub clauses-full : clauses ≡ 64 → clause_of_row n row constants arities clauses ≡ no 9
+      unfolding clause_asked clause_count ask ◌>>=◌ ◌>>◌
       clauses-full h = rw (count-in n row 1 8 0 8 fits (omega arith) read, h)
 
       clause-counted : clauses < 64
-          → clauseOfRow n row constants arities clauses ≡ clauseBehind constants arities (record { found = get_or row 1 0 / 2; left = drop 2 (numbers n row) })
-      unfolding clauseAsked clauseCount ask ◌>>=◌ ◌>>◌
+          → clause_of_row n row constants arities clauses ≡ clause_behind constants arities (record { found = get_or row 1 0 / 2; left = drop 2 (numbers n row) })
+      unfolding clause_asked clause_count ask ◌>>=◌ ◌>>◌
       clause-counted h = rw (count-in n row 1 8 0 8 fits (omega arith) read, lt-ltb clauses 64 h)
 
 -- the count is read, and there is room for a clause
@@ -71,46 +71,46 @@ clause-few k = rw k.word (omega (arith, within-between 0 8 _ k.read))
 -- ── the literals ──
 
 -- question 11 and the clause, of the literals as slots have them
-unfoldable clauseFrom : Asked (Parsed (List Pattern)) → Asked Clause
-clauseFrom (no q) = no q
-clauseFrom (yes w) = ask 11 (is_empty w.left) >> yes (map (ground []) w.found)
+unfoldable clause_from : Asked (Parsed (List Pattern)) → Asked Clause
+clause_from (no q) = no q
+clause_from (yes w) = ask 11 (is_empty w.left) >> yes (map (ground []) w.found)
 
 grounded : (constants : ℕ) (arities : List ℕ) (k : ℕ) (ns : List Number)
-    → clauseBehind constants arities (record { found = k; left = ns }) ≡ clauseFrom (literals (argument false constants) patternOf arities k ns)
-unfolding clauseBehind clauseFrom ◌>>=◌
+    → clause_behind constants arities (record { found = k; left = ns }) ≡ clause_from (literals (argument false constants) pattern_of arities k ns)
+unfolding clause_behind clause_from ◌>>=◌
 grounded constants arities k ns =
     rw (clause-literals constants arities k ns)
-    (by-asked (literals (argument false constants) patternOf arities k ns) (λ q e. cc) (λ w e. cc))
+    (by-asked (literals (argument false constants) pattern_of arities k ns) (λ q e. cc) (λ w e. cc))
 
 module _ (n : ℕ) (row : List ℕ) (s : Sizes) (arities : List ℕ) (first next : ℕ) (before after : List ℕ) (k : ClauseCounted n row s first)
-    (r : SlotsRead (literals (argument false s.constants) patternOf arities (first / 2) (drop 2 (numbers n row))) n next before after) where
-  behind-count : clauseOfRow n row s.constants arities s.clauses ≡ clauseFrom (literals (argument false s.constants) patternOf arities (first / 2) (drop 2 (numbers n row)))
+    (r : SlotsRead (literals (argument false s.constants) pattern_of arities (first / 2) (drop 2 (numbers n row))) n next before after) where
+  behind-count : clause_of_row n row s.constants arities s.clauses ≡ clause_from (literals (argument false s.constants) pattern_of arities (first / 2) (drop 2 (numbers n row)))
   behind-count =
       clause-counted n row s.constants arities s.clauses k.fits k.two k.read k.room
       ∙ rw (← k.word) (grounded s.constants arities (first / 2) (drop 2 (numbers n row)))
 
-  pub clause-unread : next ≡ 0 → clauseOfRow n row s.constants arities s.clauses ≡ no 10
-  unfolding clauseFrom
+  pub clause-unread : next ≡ 0 → clause_of_row n row s.constants arities s.clauses ≡ no 10
+  unfolding clause_from
   clause-unread h =
       rw (behind-count, slots-refused false _ _ n row 2 _ next before after k.fits (omega arith) k.two r h)
 
   module _ (read : next ≡ 0 → ⊥) where
-    walked : SlotsWalked (literals (argument false s.constants) patternOf arities (first / 2) (drop 2 (numbers n row))) n next before after
+    walked : SlotsWalked (literals (argument false s.constants) pattern_of arities (first / 2) (drop 2 (numbers n row))) n next before after
     walked = slots-walked false _ _ n row 2 _ next before after k.fits (omega arith) k.two r read
 
-    pub clause-over : next < n → clauseOfRow n row s.constants arities s.clauses ≡ no 11
-    unfolding ask ◌>>◌ clauseFrom
+    pub clause-over : next < n → clause_of_row n row s.constants arities s.clauses ≡ no 11
+    unfolding ask ◌>>◌ clause_from
     clause-over h = rw (behind-count, walked.read, left_over walked.walk.left walked.columns h)
 
     clause : Clause
     clause = map (ground []) walked.walk.found
 
-    clause-found : n ≤ next → clauseOfRow n row s.constants arities s.clauses ≡ yes clause
-    unfolding ask ◌>>◌ clauseFrom clause
+    clause-found : n ≤ next → clause_of_row n row s.constants arities s.clauses ≡ yes clause
+    unfolding ask ◌>>◌ clause_from clause
     clause-found h = rw (behind-count, walked.read, none_left walked.walk.left walked.columns h)
 
     found-count : length walked.walk.found ≡ first / 2
-    found-count = literals-length (argument false s.constants) patternOf arities (first / 2) (drop 2 (numbers n row)) walked.walk walked.read
+    found-count = literals-length (argument false s.constants) pattern_of arities (first / 2) (drop 2 (numbers n row)) walked.walk walked.read
 
     clause-count : length clause ≡ first / 2
     unfolding clause
@@ -120,32 +120,32 @@ module _ (n : ℕ) (row : List ℕ) (s : Sizes) (arities : List ℕ) (first next
     found-read = patterns-read false s.constants arities (first / 2) (drop 2 (numbers n row)) walked.walk walked.read
 
     module _ (slots : 32 ≤ length before) where
-      words : take (4 * (first / 2)) after ≡ slotWords walked.walk.found
+      words : take (4 * (first / 2)) after ≡ slot_words walked.walk.found
       words = words-front before walked.walk.found walked.words (first / 2) found-count (omega (arith, clause-few k))
 
       pub clause-slots : s.constants ≤ 32 → length arities ≤ 16 → ClauseSlots after (first / 2)
       clause-slots few declared = slots-limits s.constants few arities declared walked.walk.found found-read after (first / 2) found-count words
 
       module _ (whole : n ≤ next) (atoms : ℕ) (literals₀ table₀ index₀ literals₁ table₁ index₁ : List ℕ)
-          (state : entered atoms (s.literals + first / 2) literals₁ table₁ index₁ ≡ enterSlots after 0 (first / 2) (entered s.atoms s.literals literals₀ table₀ index₀)) where
+          (state : entered atoms (s.literals + first / 2) literals₁ table₁ index₁ ≡ enter_slots after 0 (first / 2) (entered s.atoms s.literals literals₀ table₀ index₀)) where
         abbrev result : Entered
         result = entered atoms (s.literals + first / 2) literals₁ table₁ index₁
 
-        clause-enters : clauseEntered clause s literals₀ table₀ index₀ ≡ result
-        unfolding clauseEntered clause
+        clause-enters : clause_entered clause s literals₀ table₀ index₀ ≡ result
+        unfolding clause_entered clause
         clause-enters =
             rw (clause-count, patterns-kept s.constants arities walked.walk.found found-read)
-            (sym (state ∙ enter-front after (slotWords walked.walk.found) (first / 2) _ words))
+            (sym (state ∙ enter-front after (slot_words walked.walk.found) (first / 2) _ words))
 
         module _ (starts : List ℕ) where
-          clause-held : (a : LineRead) → a ≡ clauseAnswer result s
-              → ClauseRead (clauseOfRow n row s.constants arities s.clauses) a s
+          clause-held : (a : LineRead) → a ≡ clause_answer result s
+              → ClauseRead (clause_of_row n row s.constants arities s.clauses) a s
               starts (set starts (s.clauses + 1) (s.literals + first / 2)) literals₀ literals₁ table₀ table₁ index₀ index₁
           clause-held a e =
               let same = sym clause-enters in
               rw (clause-found whole)
               (record {
-                answer = e ∙ ap (λ (x : Entered). clauseAnswer x s) same;
+                answer = e ∙ ap (λ (x : Entered). clause_answer x s) same;
                 starts = rw clause-count;
                 literals = ap (λ (x : Entered). x.literals) same;
                 table = ap (λ (x : Entered). x.table) same;
@@ -153,13 +153,13 @@ module _ (n : ℕ) (row : List ℕ) (s : Sizes) (arities : List ℕ) (first next
               })
 
           pub clause-many : 64 < atoms
-              → ClauseRead (clauseOfRow n row s.constants arities s.clauses) (No 13) s
+              → ClauseRead (clause_of_row n row s.constants arities s.clauses) (No 13) s
               starts (set starts (s.clauses + 1) (s.literals + first / 2)) literals₀ literals₁ table₀ table₁ index₀ index₁
-          unfolding clauseAnswer
+          unfolding clause_answer
           clause-many h = clause-held (No 13) (cc (lt-leb atoms 64 h))
 
           pub clause-read : atoms ≤ 64
-              → ClauseRead (clauseOfRow n row s.constants arities s.clauses) (Yes (moreClauses result s)) s
+              → ClauseRead (clause_of_row n row s.constants arities s.clauses) (Yes (more_clauses result s)) s
               starts (set starts (s.clauses + 1) (s.literals + first / 2)) literals₀ literals₁ table₀ table₁ index₀ index₁
-          unfolding clauseAnswer
-          clause-read h = clause-held (Yes (moreClauses result s)) (cc (le-leb atoms 64 h))
+          unfolding clause_answer
+          clause-read h = clause-held (Yes (more_clauses result s)) (cc (le-leb atoms 64 h))

@@ -6,9 +6,9 @@ use mathlib.Core.List.{List}
 use native.Mathlib.Omega.{arith}
 use lib.ListN.{length, get_or, set, drop}
 use borrow.Author.Tests.{lt-ltb}
-use Rattle.definitions.specs.Questions.{Asked, no, yes, ◌>>=◌, ◌>>◌, ask, within, constantsAsked, arityAsked}
+use Rattle.definitions.specs.Questions.{Asked, no, yes, ◌>>=◌, ◌>>◌, ask, within, constants_asked, arity_asked}
 use Rattle.encoding.specs.Signs.{number_of, numbers}
-use Rattle.lines.specs.LineReads.{moreConstants, moreSymbols, ConstantsRead, SymbolRead}
+use Rattle.lines.specs.LineReads.{more_constants, more_symbols, ConstantsRead, SymbolRead}
 use Rattle.encoding.specs.declared.Sizes.{Sizes}
 use Rattle.lines.specs.declared.LineRead.TheVariants.{No, Yes}
 use Rattle.lines.proofs.CountColumns.{no-column, some-column, count-missing, count-out, count-in}
@@ -19,26 +19,26 @@ pub constants-refused : {m : Asked ℕ} {q : ℕ} (s : Sizes) → m ≡ no q →
 constants-refused s e = rw e refl
 
 module _ (n : ℕ) (row : List ℕ) where
-  pub constants-missing : n < 2 → constantsAsked (drop 1 (numbers n row)) ≡ no 8
-  unfolding constantsAsked ◌>>=◌
+  pub constants-missing : n < 2 → constants_asked (drop 1 (numbers n row)) ≡ no 8
+  unfolding constants_asked ◌>>=◌
   constants-missing h = rw (count-missing n row 1 8 1 32 (omega arith))
 
   module _ (fits : n ≤ length row) (there : 2 ≤ n) where
-    pub constants-out : within 1 32 (number_of (get_or row 1 0)) ≡ false → constantsAsked (drop 1 (numbers n row)) ≡ no 8
-    unfolding constantsAsked ◌>>=◌
+    pub constants-out : within 1 32 (number_of (get_or row 1 0)) ≡ false → constants_asked (drop 1 (numbers n row)) ≡ no 8
+    unfolding constants_asked ◌>>=◌
     constants-out h = rw (count-out n row 1 8 1 32 fits (omega arith) h)
 
     module _ (read : within 1 32 (number_of (get_or row 1 0)) ≡ true) where
-      pub constants-over : 2 < n → constantsAsked (drop 1 (numbers n row)) ≡ no 11
-      unfolding constantsAsked ask ◌>>=◌ ◌>>◌
+      pub constants-over : 2 < n → constants_asked (drop 1 (numbers n row)) ≡ no 11
+      unfolding constants_asked ask ◌>>=◌ ◌>>◌
       constants-over h = rw (count-in n row 1 8 1 32 fits (omega arith) read, some-column n row 2 fits h)
 
-      constants-found : n ≤ 2 → constantsAsked (drop 1 (numbers n row)) ≡ yes (get_or row 1 0 / 2)
-      unfolding constantsAsked ask ◌>>=◌ ◌>>◌
+      constants-found : n ≤ 2 → constants_asked (drop 1 (numbers n row)) ≡ yes (get_or row 1 0 / 2)
+      unfolding constants_asked ask ◌>>=◌ ◌>>◌
       constants-found h = rw (count-in n row 1 8 1 32 fits (omega arith) read, no-column n row 2 h)
 
       pub constants-read : n ≤ 2 → (word : ℕ) → word ≡ get_or row 1 0 → (s : Sizes)
-          → ConstantsRead (constantsAsked (drop 1 (numbers n row))) (Yes (moreConstants (word / 2) s)) s
+          → ConstantsRead (constants_asked (drop 1 (numbers n row))) (Yes (more_constants (word / 2) s)) s
       constants-read h word e s = rw (constants-found h, e) refl
 
 -- ── kind 2 ──
@@ -47,30 +47,30 @@ pub symbol-refused : {m : Asked ℕ} {q : ℕ} (s : Sizes) (a b : List ℕ) → 
 symbol-refused s a b e = rw e refl
 
 module _ (n : ℕ) (row : List ℕ) (symbols : ℕ) where
-  pub arity-missing : n < 2 → arityAsked symbols (drop 1 (numbers n row)) ≡ no 8
-  unfolding arityAsked ◌>>=◌
+  pub arity-missing : n < 2 → arity_asked symbols (drop 1 (numbers n row)) ≡ no 8
+  unfolding arity_asked ◌>>=◌
   arity-missing h = rw (count-missing n row 1 8 0 3 (omega arith))
 
   module _ (fits : n ≤ length row) (there : 2 ≤ n) where
-    pub arity-out : within 0 3 (number_of (get_or row 1 0)) ≡ false → arityAsked symbols (drop 1 (numbers n row)) ≡ no 8
-    unfolding arityAsked ◌>>=◌
+    pub arity-out : within 0 3 (number_of (get_or row 1 0)) ≡ false → arity_asked symbols (drop 1 (numbers n row)) ≡ no 8
+    unfolding arity_asked ◌>>=◌
     arity-out h = rw (count-out n row 1 8 0 3 fits (omega arith) h)
 
     module _ (read : within 0 3 (number_of (get_or row 1 0)) ≡ true) where
-      pub symbols-full : symbols ≡ 16 → arityAsked symbols (drop 1 (numbers n row)) ≡ no 9
-      unfolding arityAsked ask ◌>>=◌ ◌>>◌
+      pub symbols-full : symbols ≡ 16 → arity_asked symbols (drop 1 (numbers n row)) ≡ no 9
+      unfolding arity_asked ask ◌>>=◌ ◌>>◌
       symbols-full h = rw (count-in n row 1 8 0 3 fits (omega arith) read, h)
 
       module _ (room : symbols < 16) where
-        pub arity-over : 2 < n → arityAsked symbols (drop 1 (numbers n row)) ≡ no 11
-        unfolding arityAsked ask ◌>>=◌ ◌>>◌
+        pub arity-over : 2 < n → arity_asked symbols (drop 1 (numbers n row)) ≡ no 11
+        unfolding arity_asked ask ◌>>=◌ ◌>>◌
         arity-over h = rw (count-in n row 1 8 0 3 fits (omega arith) read, lt-ltb symbols 16 room, some-column n row 2 fits h)
 
-        arity-found : n ≤ 2 → arityAsked symbols (drop 1 (numbers n row)) ≡ yes (get_or row 1 0 / 2)
-        unfolding arityAsked ask ◌>>=◌ ◌>>◌
+        arity-found : n ≤ 2 → arity_asked symbols (drop 1 (numbers n row)) ≡ yes (get_or row 1 0 / 2)
+        unfolding arity_asked ask ◌>>=◌ ◌>>◌
         arity-found h = rw (count-in n row 1 8 0 3 fits (omega arith) read, lt-ltb symbols 16 room, no-column n row 2 h)
 
 pub symbol-read : (n : ℕ) (row : List ℕ) (s : Sizes) → n ≤ length row → 2 ≤ n → within 0 3 (number_of (get_or row 1 0)) ≡ true → s.symbols < 16 → n ≤ 2
     → (word : ℕ) → word ≡ get_or row 1 0 → (arities : List ℕ)
-    → SymbolRead (arityAsked s.symbols (drop 1 (numbers n row))) (Yes (moreSymbols s)) s arities (set arities s.symbols (word / 2))
+    → SymbolRead (arity_asked s.symbols (drop 1 (numbers n row))) (Yes (more_symbols s)) s arities (set arities s.symbols (word / 2))
 symbol-read n row s fits there read room h word e arities = rw (arity-found n row s.symbols fits there read room h, e) (refl, refl)

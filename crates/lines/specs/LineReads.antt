@@ -4,11 +4,11 @@ use Rattle.std.proofs.lemmas.List.Edits.{sets}
 use Rattle.definitions.specs.Lists.{joined}
 use Rattle.definitions.specs.Words.{Clause, Rule, TwoWay, forward, RuleLine}
 use Rattle.definitions.specs.Sheet.{Number}
-use Rattle.definitions.specs.Questions.{Asked, no, yes, Parsed, RuleCounts, TwoWayCounts, rulesOf, reverseRules, countsAs}
+use Rattle.definitions.specs.Questions.{Asked, no, yes, Parsed, RuleCounts, TwoWayCounts, rules_of, reverse_rules, counts_as}
 use Rattle.theory.specs.ListLaws.{Each}
-use Rattle.encoding.specs.Slots.{asPattern, slotWords, ruleWords}
+use Rattle.encoding.specs.Slots.{as_pattern, slot_words, rule_words}
 use Rattle.encoding.specs.SlotLaws.{InSlot}
-use Rattle.literals.specs.Entering.{Entered, entered, enterSlots}
+use Rattle.literals.specs.Entering.{Entered, entered, enter_slots}
 use Rattle.encoding.specs.Lent.{Lent}
 use Rattle.encoding.specs.declared.Sizes.{Sizes}
 use Rattle.lines.specs.declared.LineRead.{LineRead}
@@ -20,34 +20,34 @@ use Rattle.lines.specs.declared.LineRead.TheVariants.{No, Yes}
 
 -- ── one line more ──
 
-unfoldable pub moreConstants : ℕ → Sizes → Sizes
-moreConstants n s = record { constants = n; symbols = s.symbols; rules = s.rules; counted = s.counted; clauses = s.clauses; atoms = s.atoms; literals = s.literals }
+unfoldable pub more_constants : ℕ → Sizes → Sizes
+more_constants n s = record { constants = n; symbols = s.symbols; rules = s.rules; counted = s.counted; clauses = s.clauses; atoms = s.atoms; literals = s.literals }
 
-unfoldable pub moreSymbols : Sizes → Sizes
-moreSymbols s = record { constants = s.constants; symbols = s.symbols + 1; rules = s.rules; counted = s.counted; clauses = s.clauses; atoms = s.atoms; literals = s.literals }
+unfoldable pub more_symbols : Sizes → Sizes
+more_symbols s = record { constants = s.constants; symbols = s.symbols + 1; rules = s.rules; counted = s.counted; clauses = s.clauses; atoms = s.atoms; literals = s.literals }
 
 -- so many rules, and so many as question 9 counts them
 abbrev pub resized : ℕ → ℕ → Sizes → Sizes
 resized rules counted s = record { constants = s.constants; symbols = s.symbols; rules = rules; counted = counted; clauses = s.clauses; atoms = s.atoms; literals = s.literals }
 
 -- with the rules that a line of kind 3 or 8 stands for
-unfoldable pub moreRules : RuleLine → Sizes → Sizes
-moreRules l s = resized (s.rules + length (rulesOf l)) (s.counted + countsAs l) s
+unfoldable pub more_rules : RuleLine → Sizes → Sizes
+more_rules l s = resized (s.rules + length (rules_of l)) (s.counted + counts_as l) s
 
-unfoldable pub moreClauses : Entered → Sizes → Sizes
-moreClauses e s = record { constants = s.constants; symbols = s.symbols; rules = s.rules; counted = s.counted; clauses = s.clauses + 1; atoms = e.atoms; literals = e.count }
+unfoldable pub more_clauses : Entered → Sizes → Sizes
+more_clauses e s = record { constants = s.constants; symbols = s.symbols; rules = s.rules; counted = s.counted; clauses = s.clauses + 1; atoms = e.atoms; literals = e.count }
 
 abbrev pub ConstantsRead : Asked ℕ → LineRead → Sizes → Type 0
 ConstantsRead (no q) r s = r ≡ No q
-ConstantsRead (yes n) r s = r ≡ Yes (moreConstants n s)
+ConstantsRead (yes n) r s = r ≡ Yes (more_constants n s)
 
 abbrev pub SymbolRead : Asked ℕ → LineRead → Sizes → List ℕ → List ℕ → Type 0
 SymbolRead (no q) r s before after = r ≡ No q
-SymbolRead (yes n) r s before after = (r ≡ Yes (moreSymbols s)) × (after ≡ set before s.symbols n)
+SymbolRead (yes n) r s before after = (r ≡ Yes (more_symbols s)) × (after ≡ set before s.symbols n)
 
 -- question 8 of a line of kind 3: both counts, and the columns that are left then
-unfoldable pub countsOf : ℕ → ℕ → List Number → Parsed RuleCounts
-countsOf h b ns = record { found = record { heads = h; body = b }; left = ns }
+unfoldable pub counts_of : ℕ → ℕ → List Number → Parsed RuleCounts
+counts_of h b ns = record { found = record { heads = h; body = b }; left = ns }
 
 abbrev pub CountsRead : Asked (Parsed RuleCounts) → RuleCounted → ℕ → List Number → Type 0
 CountsRead (no q) r n left = (r ≡ NoCounts) × (q ≡ 8)
@@ -58,17 +58,17 @@ pub record RuleSlots (x : Rule) (h b : ℕ) (before slots : List ℕ) : Type 0 w
   pub heads : length x.heads ≡ h
   pub body : length x.body ≡ b
   pub wide : 32 ≤ length before
-  pub words : slots ≡ sets before 0 (slotWords (x.heads ++ x.body))
-  pub inSlots : Each InSlot (x.heads ++ x.body)
+  pub words : slots ≡ sets before 0 (slot_words (x.heads ++ x.body))
+  pub in_slots : Each InSlot (x.heads ++ x.body)
 
 -- 10 to 12 and 14 of the literals behind: the question, or 0; then the rule stands in the slots and at its place
 abbrev pub BehindRead : Asked Rule → ℕ → ℕ → ℕ → ℕ → List ℕ → List ℕ → List ℕ → List ℕ → Type 0
 BehindRead (no q) h b r place slots₀ slots₁ before after = (r ≡ q) × (q ≡ 0 → ⊥)
-BehindRead (yes x) h b r place slots₀ slots₁ before after = (r ≡ 0) × RuleSlots x h b slots₀ slots₁ × (after ≡ sets before (22 * place) (ruleWords x))
+BehindRead (yes x) h b r place slots₀ slots₁ before after = (r ≡ 0) × RuleSlots x h b slots₀ slots₁ × (after ≡ sets before (22 * place) (rule_words x))
 
 -- 7/14: question 8 of a line of kind 8, in the same way
-unfoldable pub twoWayCountsOf : ℕ → ℕ → ℕ → List Number → Parsed TwoWayCounts
-twoWayCountsOf k r b ns = record { found = record { kept = k; rewritten = r; body = b }; left = ns }
+unfoldable pub two_way_counts_of : ℕ → ℕ → ℕ → List Number → Parsed TwoWayCounts
+two_way_counts_of k r b ns = record { found = record { kept = k; rewritten = r; body = b }; left = ns }
 
 abbrev pub TwoWayCountsRead : Asked (Parsed TwoWayCounts) → TwoWayCounted → ℕ → List Number → Type 0
 TwoWayCountsRead (no q) r n left = (r ≡ two.NoCounts) × (q ≡ 8)
@@ -84,32 +84,32 @@ pub record TwoWaySlots (t : TwoWay) (k r b : ℕ) (slots : List ℕ) : Type 0 wh
   pub rule : RuleSlots (forward t) (k + r) b before slots
 
 -- the same slots in the order of the reverse rule
-unfoldable pub turnedWords : ℕ → ℕ → ℕ → List ℕ → List ℕ
-turnedWords k r b slots = (take (4 * k) slots ++ take (4 * b) (drop (4 * k + 4 * r) slots)) ++ take (4 * r) (drop (4 * k) slots)
+unfoldable pub turned_words : ℕ → ℕ → ℕ → List ℕ → List ℕ
+turned_words k r b slots = (take (4 * k) slots ++ take (4 * b) (drop (4 * k + 4 * r) slots)) ++ take (4 * r) (drop (4 * k) slots)
 
 -- whatever two-way rule they hold: its reverse rule at its place if it is there, and how many that are
 abbrev pub ReversePut : ℕ → ℕ → ℕ → List ℕ → ℕ → ℕ → List ℕ → List ℕ → Type 0
 ReversePut k r b slots more place before after =
-    (t : TwoWay) → TwoWaySlots t k r b slots → (more ≡ length (reverseRules t)) × (after ≡ sets before (22 * place) (joined ruleWords (reverseRules t)))
+    (t : TwoWay) → TwoWaySlots t k r b slots → (more ≡ length (reverse_rules t)) × (after ≡ sets before (22 * place) (joined rule_words (reverse_rules t)))
 
 -- a line of kind 3 or 8, by what is read of it: the rules that it stands for, one behind the other
 abbrev pub RuleRead : {A : Type 0} → (A → RuleLine) → Asked A → LineRead → Sizes → List ℕ → List ℕ → Type 0
 RuleRead line (no q) r s before after = r ≡ No q
-RuleRead line (yes x) r s before after = (r ≡ Yes (moreRules (line x) s)) × (after ≡ sets before (22 * s.rules) (joined ruleWords (rulesOf (line x))))
+RuleRead line (yes x) r s before after = (r ≡ Yes (more_rules (line x) s)) × (after ≡ sets before (22 * s.rules) (joined rule_words (rules_of (line x))))
 
 -- the clause enters, and question 13 is asked of the atoms that there are then
-unfoldable pub clauseEntered : Clause → Sizes → List ℕ → List ℕ → List ℕ → Entered
-clauseEntered c s literals table index = enterSlots (slotWords (map asPattern c)) 0 (length c) (entered s.atoms s.literals literals table index)
+unfoldable pub clause_entered : Clause → Sizes → List ℕ → List ℕ → List ℕ → Entered
+clause_entered c s literals table index = enter_slots (slot_words (map as_pattern c)) 0 (length c) (entered s.atoms s.literals literals table index)
 
-unfoldable pub clauseAnswer : Entered → Sizes → LineRead
-clauseAnswer e s = elim (leb e.atoms 64) [ true ↦ Yes (moreClauses e s) | false ↦ No 13 ]
+unfoldable pub clause_answer : Entered → Sizes → LineRead
+clause_answer e s = elim (leb e.atoms 64) [ true ↦ Yes (more_clauses e s) | false ↦ No 13 ]
 
 pub record ClauseHeld (c : Clause) (r : LineRead) (s : Sizes) (starts₀ starts₁ literals₀ literals₁ table₀ table₁ index₀ index₁ : List ℕ) : Type 0 where
-  pub answer : r ≡ clauseAnswer (clauseEntered c s literals₀ table₀ index₀) s
+  pub answer : r ≡ clause_answer (clause_entered c s literals₀ table₀ index₀) s
   pub starts : starts₁ ≡ set starts₀ (s.clauses + 1) (s.literals + length c)
-  pub literals : literals₁ ≡ (clauseEntered c s literals₀ table₀ index₀).literals
-  pub table : table₁ ≡ (clauseEntered c s literals₀ table₀ index₀).table
-  pub index : index₁ ≡ (clauseEntered c s literals₀ table₀ index₀).index
+  pub literals : literals₁ ≡ (clause_entered c s literals₀ table₀ index₀).literals
+  pub table : table₁ ≡ (clause_entered c s literals₀ table₀ index₀).table
+  pub index : index₁ ≡ (clause_entered c s literals₀ table₀ index₀).index
 
 abbrev pub ClauseRead : Asked Clause → LineRead → Sizes → List ℕ → List ℕ → List ℕ → List ℕ → List ℕ → List ℕ → List ℕ → List ℕ → Type 0
 ClauseRead (no q) r s starts₀ starts₁ literals₀ literals₁ table₀ table₁ index₀ index₁ = r ≡ No q

@@ -7,25 +7,25 @@ use native.Mathlib.Omega.{arith}
 use lib.Dec.{eqb}
 use lib.ListN.{length, get_or, take, drop, length-drop}
 use lib.Seq.{length-take-le}
-use Rattle.encoding.specs.ArrayLaws.{getD-rising, part-cons, part-nil}
-use Rattle.encoding.specs.CountLaws.{upFrom-more, upFrom-none}
-use Rattle.encoding.specs.Values.{Values, unsetAt, falseWord}
+use Rattle.encoding.specs.ArrayLaws.{get_d-rising, part-cons, part-nil}
+use Rattle.encoding.specs.CountLaws.{up_from-more, up_from-none}
+use Rattle.encoding.specs.Values.{Values, unset_at, false_word}
 use Rattle.definitions.specs.Lists.{joined, up_from}
 use Rattle.definitions.specs.Sheet.{Number, plus}
-use Rattle.definitions.specs.Listing.{fieldBytes, lineBytes, narrow, wide, answerNumber}
+use Rattle.definitions.specs.Listing.{field_bytes, line_bytes, narrow, wide, answer_number}
 use Rattle.definitions.specs.declared.Verdict.{Verdict}
 use Rattle.definitions.specs.declared.Verdict.TheVariants.{Unsat, Unknown, Spent, Full}
 use Rattle.theory.specs.ListLaws.{joined-append}
-use Rattle.units.specs.Units.{clauseAt}
+use Rattle.units.specs.Units.{clause_at}
 use Rattle.machine.specs.declared.Run.{Run}
 use Rattle.listing.specs.Puts.{Parts}
-use Rattle.listing.specs.Lines.{columnBytes, rowBytes, codeSymbol, codeConstant, constantNumber, codeNumbers, wordNumbers, loggedNumbers, loggedBytes, logBytes, settingBytes, settingsBytes, countBytes, listingBytes, ClausesListable}
+use Rattle.listing.specs.Lines.{column_bytes, row_bytes, code_symbol, code_constant, constant_number, code_numbers, word_numbers, logged_numbers, logged_bytes, log_bytes, setting_bytes, settings_bytes, count_bytes, listing_bytes, ClausesListable}
 
 -- ── columns ──
 
-column-append : (a b : List Number) → columnBytes (a ++ b) ≡ columnBytes a ++ columnBytes b
-unfolding columnBytes
-column-append a b = ap (joined fieldBytes) (map-append narrow a b) ∙ joined-append fieldBytes (map narrow a) (map narrow b)
+column-append : (a b : List Number) → column_bytes (a ++ b) ≡ column_bytes a ++ column_bytes b
+unfolding column_bytes
+column-append a b = ap (joined field_bytes) (map-append narrow a b) ∙ joined-append field_bytes (map narrow a) (map narrow b)
 
 -- a number with no sign, as the calls have it
 abbrev pub unsigned : ℕ → Number
@@ -36,77 +36,77 @@ no_sign e = absurd (false≢true e)
 
 -- the first of several columns
 module _ {size n : ℕ} (e : size ≡ n) (ns : List Number) where
-  pub columns-first : (more : List ℕ) → Parts (columnBytes (plus n ∷ ns) ++ more) (columnBytes (unsigned size ∷ [])) (columnBytes ns ++ more)
+  pub columns-first : (more : List ℕ) → Parts (column_bytes (plus n ∷ ns) ++ more) (column_bytes (unsigned size ∷ [])) (column_bytes ns ++ more)
   unfolding plus
-  columns-first more = record { whole = rw (e, column-append (unsigned n ∷ []) ns) (append_assoc (columnBytes (unsigned n ∷ [])) (columnBytes ns) more) }
+  columns-first more = record { whole = rw (e, column-append (unsigned n ∷ []) ns) (append_assoc (column_bytes (unsigned n ∷ [])) (column_bytes ns) more) }
 
-  pub row_first : Parts (rowBytes (plus n ∷ ns)) (columnBytes (unsigned size ∷ [])) (rowBytes ns)
-  unfolding rowBytes lineBytes columnBytes
+  pub row_first : Parts (row_bytes (plus n ∷ ns)) (column_bytes (unsigned size ∷ [])) (row_bytes ns)
+  unfolding row_bytes line_bytes column_bytes
   row_first = columns-first (10 ∷ [])
 
-pub row-parts : (ns : List Number) → Parts (rowBytes ns) (columnBytes ns) (10 ∷ [])
-unfolding rowBytes lineBytes columnBytes
+pub row-parts : (ns : List Number) → Parts (row_bytes ns) (column_bytes ns) (10 ∷ [])
+unfolding row_bytes line_bytes column_bytes
 row-parts ns = record { whole = refl }
 
 -- ── the line of kind 5 ──
 
 -- its wide columns and LF, behind the others
-abbrev pub countsBehind : ℕ → ℕ → List ℕ
-countsBehind decisions conflicts = fieldBytes (wide decisions) ++ (fieldBytes (wide conflicts) ++ (10 ∷ []))
+abbrev pub counts_behind : ℕ → ℕ → List ℕ
+counts_behind decisions conflicts = field_bytes (wide decisions) ++ (field_bytes (wide conflicts) ++ (10 ∷ []))
 
 pub counts-first : (v : Verdict) (atoms logged decisions conflicts : ℕ)
     → Parts
-    (countBytes v atoms logged decisions conflicts)
-    (columnBytes (unsigned 5 ∷ []))
-    (columnBytes (plus (answerNumber v) ∷ plus atoms ∷ plus logged ∷ []) ++ countsBehind decisions conflicts)
-unfolding countBytes
-counts-first v atoms logged decisions conflicts = columns-first {n = 5} refl (plus (answerNumber v) ∷ plus atoms ∷ plus logged ∷ []) (countsBehind decisions conflicts)
+    (count_bytes v atoms logged decisions conflicts)
+    (column_bytes (unsigned 5 ∷ []))
+    (column_bytes (plus (answer_number v) ∷ plus atoms ∷ plus logged ∷ []) ++ counts_behind decisions conflicts)
+unfolding count_bytes
+counts-first v atoms logged decisions conflicts = columns-first {n = 5} refl (plus (answer_number v) ∷ plus atoms ∷ plus logged ∷ []) (counts_behind decisions conflicts)
 
-pub counts-wide : (first more : List ℕ) → Parts (columnBytes [] ++ (first ++ more)) first more
-unfolding columnBytes joined
+pub counts-wide : (first more : List ℕ) → Parts (column_bytes [] ++ (first ++ more)) first more
+unfolding column_bytes joined
 counts-wide first more = record { whole = refl }
 
 -- ── what a loop puts: its first turn, and the turns behind it ──
 
 -- the constants of an atom from the i-th on
 module _ (code arity i : ℕ) where
-  pub constants-first : {constant : ℕ} → i < arity → constant ≡ codeConstant code i
+  pub constants-first : {constant : ℕ} → i < arity → constant ≡ code_constant code i
       → Parts
-      (columnBytes (map (constantNumber code) (up_from i (arity - i))))
-      (columnBytes (unsigned constant ∷ []))
-      (columnBytes (map (constantNumber code) (up_from (i + 1) (arity - (i + 1)))))
-  unfolding constantNumber plus
-  constants-first h e = record { whole = rw (upFrom-more h, e) (column-append (constantNumber code i ∷ []) (map (constantNumber code) (up_from (i + 1) (arity - (i + 1))))) }
+      (column_bytes (map (constant_number code) (up_from i (arity - i))))
+      (column_bytes (unsigned constant ∷ []))
+      (column_bytes (map (constant_number code) (up_from (i + 1) (arity - (i + 1)))))
+  unfolding constant_number plus
+  constants-first h e = record { whole = rw (up_from-more h, e) (column-append (constant_number code i ∷ []) (map (constant_number code) (up_from (i + 1) (arity - (i + 1))))) }
 
-  pub constants-none : arity ≤ i → columnBytes (map (constantNumber code) (up_from i (arity - i))) ≡ []
-  unfolding columnBytes joined
-  constants-none h = rw (upFrom-none h)
+  pub constants-none : arity ≤ i → column_bytes (map (constant_number code) (up_from i (arity - i))) ≡ []
+  unfolding column_bytes joined
+  constants-none h = rw (up_from-none h)
 
 -- a literal's symbol, and behind it its constants
 pub literal-first : (arities : List ℕ) (negative : Bool) (code : ℕ) {arity : ℕ} → arity ≡ get_or arities (code / 32768 % 16) 0
     → Parts
-    (columnBytes (codeNumbers arities negative code))
-    (columnBytes (record { negative = negative; size = code / 32768 % 16 + 1 } ∷ []))
-    (columnBytes (map (constantNumber code) (up_from 0 arity)))
-unfolding codeNumbers codeSymbol
-literal-first arities negative code {arity} e = record { whole = rw (← e) (column-append (record { negative = negative; size = code / 32768 % 16 + 1 } ∷ []) (map (constantNumber code) (up_from 0 arity))) }
+    (column_bytes (code_numbers arities negative code))
+    (column_bytes (record { negative = negative; size = code / 32768 % 16 + 1 } ∷ []))
+    (column_bytes (map (constant_number code) (up_from 0 arity)))
+unfolding code_numbers code_symbol
+literal-first arities negative code {arity} e = record { whole = rw (← e) (column-append (record { negative = negative; size = code / 32768 % 16 + 1 } ∷ []) (map (constant_number code) (up_from 0 arity))) }
 
 -- the words of a clause from the i-th place on
 module _ (arities table words : List ℕ) (end i : ℕ) where
   pub words-first : i < end → end ≤ length words
       → Parts
-      (columnBytes (joined (wordNumbers arities table) (take (end - i) (drop i words))))
-      (columnBytes (codeNumbers arities (eqb (get_or words i 0 % 2) 1) (get_or table (get_or words i 0 / 2) 0)))
-      (columnBytes (joined (wordNumbers arities table) (take (end - (i + 1)) (drop (i + 1) words))))
-  unfolding joined wordNumbers
+      (column_bytes (joined (word_numbers arities table) (take (end - i) (drop i words))))
+      (column_bytes (code_numbers arities (eqb (get_or words i 0 % 2) 1) (get_or table (get_or words i 0 / 2) 0)))
+      (column_bytes (joined (word_numbers arities table) (take (end - (i + 1)) (drop (i + 1) words))))
+  unfolding joined word_numbers
   words-first h fits =
       record {
         whole = rw (part-cons words end i h fits)
-            (column-append (wordNumbers arities table (get_or words i 0)) (joined (wordNumbers arities table) (take (end - (i + 1)) (drop (i + 1) words))));
+            (column-append (word_numbers arities table (get_or words i 0)) (joined (word_numbers arities table) (take (end - (i + 1)) (drop (i + 1) words))));
       }
 
-  pub words-none : end ≤ i → columnBytes (joined (wordNumbers arities table) (take (end - i) (drop i words))) ≡ []
-  unfolding joined columnBytes
+  pub words-none : end ≤ i → column_bytes (joined (word_numbers arities table) (take (end - i) (drop i words))) ≡ []
+  unfolding joined column_bytes
   words-none h = rw (part-nil words end i h)
 
 -- ── the lines of kind 6 ──
@@ -121,69 +121,69 @@ listable-first {given} {clauses} {starts} f first g h =
       limit = omega (arith, f.limit);
       rising = λ c l. f.rising c (omega arith);
       inside = λ c l. f.inside c (omega arith);
-      words = λ i l. f.words i (omega (arith, getD-rising starts clauses f.rising first h));
+      words = λ i l. f.words i (omega (arith, get_d-rising starts clauses f.rising first h));
     }
 
 module _ (starts literals : List ℕ) (c : ℕ) where
   -- how many words a clause has
   pub clause-count : get_or starts c 0 ≤ get_or starts (c + 1) 0 → get_or starts (c + 1) 0 ≤ length literals
-      → get_or starts (c + 1) 0 - get_or starts c 0 ≡ length (clauseAt starts literals c)
-  unfolding clauseAt
+      → get_or starts (c + 1) 0 - get_or starts c 0 ≡ length (clause_at starts literals c)
+  unfolding clause_at
   clause-count h fits =
       sym (length-take-le (get_or starts (c + 1) 0 - get_or starts c 0) (drop (get_or starts c 0) literals) (omega (arith, length-drop (get_or starts c 0) literals)))
 
   -- its words, and LF behind them
   pub clause-end : (arities table : List ℕ)
       → Parts
-      (rowBytes (joined (wordNumbers arities table) (clauseAt starts literals c)))
-      (columnBytes (joined (wordNumbers arities table) (take (get_or starts (c + 1) 0 - get_or starts c 0) (drop (get_or starts c 0) literals))))
+      (row_bytes (joined (word_numbers arities table) (clause_at starts literals c)))
+      (column_bytes (joined (word_numbers arities table) (take (get_or starts (c + 1) 0 - get_or starts c 0) (drop (get_or starts c 0) literals))))
       (10 ∷ [])
-  unfolding clauseAt
-  clause-end arities table = row-parts (joined (wordNumbers arities table) (take (get_or starts (c + 1) 0 - get_or starts c 0) (drop (get_or starts c 0) literals)))
+  unfolding clause_at
+  clause-end arities table = row-parts (joined (word_numbers arities table) (take (get_or starts (c + 1) 0 - get_or starts c 0) (drop (get_or starts c 0) literals)))
 
 pub logged-first : (given : ℕ) (arities starts literals numbers table : List ℕ) (n : ℕ)
     → Parts
-    (loggedBytes given arities starts literals numbers table n)
-    (columnBytes (unsigned 6 ∷ []))
-    (rowBytes (plus (get_or numbers n 0) ∷ plus (length (clauseAt starts literals (given + n))) ∷ joined (wordNumbers arities table) (clauseAt starts literals (given + n))))
-unfolding loggedBytes loggedNumbers
+    (logged_bytes given arities starts literals numbers table n)
+    (column_bytes (unsigned 6 ∷ []))
+    (row_bytes (plus (get_or numbers n 0) ∷ plus (length (clause_at starts literals (given + n))) ∷ joined (word_numbers arities table) (clause_at starts literals (given + n))))
+unfolding logged_bytes logged_numbers
 logged-first given arities starts literals numbers table n =
-    row_first {n = 6} refl (plus (get_or numbers n 0) ∷ plus (length (clauseAt starts literals (given + n))) ∷ joined (wordNumbers arities table) (clauseAt starts literals (given + n)))
+    row_first {n = 6} refl (plus (get_or numbers n 0) ∷ plus (length (clause_at starts literals (given + n))) ∷ joined (word_numbers arities table) (clause_at starts literals (given + n)))
 
 -- ── the lines of kind 7 ──
 
 module _ (arities table : List ℕ) (values : Values) (i : ℕ) where
-  pub setting-unset : {b : Bool} → b ≡ unsetAt values i → b ≡ true → settingBytes arities table values i ≡ []
-  unfolding settingBytes
+  pub setting-unset : {b : Bool} → b ≡ unset_at values i → b ≡ true → setting_bytes arities table values i ≡ []
+  unfolding setting_bytes
   setting-unset u e = cc
 
-  pub setting-set : {b negative : Bool} → b ≡ unsetAt values i → b ≡ false → negative ≡ falseWord values (2 * i) → rowBytes (plus 7 ∷ codeNumbers arities negative (get_or table i 0)) ≡ settingBytes arities table values i
-  unfolding settingBytes
+  pub setting-set : {b negative : Bool} → b ≡ unset_at values i → b ≡ false → negative ≡ false_word values (2 * i) → row_bytes (plus 7 ∷ code_numbers arities negative (get_or table i 0)) ≡ setting_bytes arities table values i
+  unfolding setting_bytes
   setting-set u e f = cc
 
 module _ (v : Verdict) (atoms : ℕ) (arities table : List ℕ) (values : Values) where
-  pub settings-unsat : v ≡ Unsat → settingsBytes v atoms arities table values ≡ []
-  unfolding settingsBytes
+  pub settings-unsat : v ≡ Unsat → settings_bytes v atoms arities table values ≡ []
+  unfolding settings_bytes
   settings-unsat e = rw e
 
-  pub settings-unknown : v ≡ Unknown → joined (settingBytes arities table values) (up_from 0 atoms) ≡ settingsBytes v atoms arities table values
-  unfolding settingsBytes
+  pub settings-unknown : v ≡ Unknown → joined (setting_bytes arities table values) (up_from 0 atoms) ≡ settings_bytes v atoms arities table values
+  unfolding settings_bytes
   settings-unknown e = rw e
 
-  pub settings-spent : v ≡ Spent → settingsBytes v atoms arities table values ≡ []
-  unfolding settingsBytes
+  pub settings-spent : v ≡ Spent → settings_bytes v atoms arities table values ≡ []
+  unfolding settings_bytes
   settings-spent e = rw e
 
-  pub settings-full : v ≡ Full → settingsBytes v atoms arities table values ≡ []
-  unfolding settingsBytes
+  pub settings-full : v ≡ Full → settings_bytes v atoms arities table values ≡ []
+  unfolding settings_bytes
   settings-full e = rw e
 
 -- ── all lines ──
 
 pub listing-first : (v : Verdict) (run : Run) (given : ℕ) (arities starts literals numbers table : List ℕ) (values : Values)
     → Parts
-    (listingBytes v run given arities starts literals numbers table values)
-    (countBytes v run.atoms (run.clauses - given) run.decisions run.conflicts)
-    (logBytes given run.clauses arities starts literals numbers table ++ settingsBytes v run.atoms arities table values)
-unfolding listingBytes
+    (listing_bytes v run given arities starts literals numbers table values)
+    (count_bytes v run.atoms (run.clauses - given) run.decisions run.conflicts)
+    (log_bytes given run.clauses arities starts literals numbers table ++ settings_bytes v run.atoms arities table values)
+unfolding listing_bytes
 listing-first v run given arities starts literals numbers table values = record { whole = refl }

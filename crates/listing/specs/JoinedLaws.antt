@@ -6,7 +6,7 @@ use Rattle.std.proofs.Math.ListN.{get_elem?}
 use Rattle.definitions.specs.Lists.{joined, up_from}
 use Rattle.theory.specs.ListLaws.{joined-append}
 use Rattle.theory.specs.PlaceLaws.{map-places}
-use Rattle.encoding.specs.CountLaws.{upFrom-more, upFrom-none}
+use Rattle.encoding.specs.CountLaws.{up_from-more, up_from-none}
 use Rattle.listing.specs.Puts.{Parts}
 
 pub joined-map : {A B C : Type 0} (f : B → List C) (g : A → B) (xs : List A) → joined f (map g xs) ≡ joined (λ x. f (g x)) xs
@@ -33,8 +33,8 @@ joined-places f g xs h = joined-places-from f g 0 xs (λ i x e. let z : 0 + i �
 module _ (f : ℕ → List ℕ) (n i : ℕ) where
   pub joined-first : i < n → Parts (joined f (up_from i (n - i))) (f i) (joined f (up_from (i + 1) (n - (i + 1))))
   unfolding joined
-  joined-first h = record { whole = rw (upFrom-more h) }
+  joined-first h = record { whole = rw (up_from-more h) }
 
   pub joined-none : n ≤ i → joined f (up_from i (n - i)) ≡ []
   unfolding joined
-  joined-none h = rw (upFrom-none h)
+  joined-none h = rw (up_from-none h)

@@ -1,15 +1,15 @@
 // The listing at the front of a lent room: lines of kind 5, 6 and 7.
 // Each function puts its bytes from a place on and hands back the place behind them.
 ghost use Rattle.std.specs.Prelude.{ℕ, ◌+◌, ◌-◌, ◌≤◌, ◌<◌, ◌≡◌, true, [], ◌∷◌, map, length, get_or, take, drop};
-ghost use Rattle.encoding.specs.Lengths.{literalArray};
+ghost use Rattle.encoding.specs.Lengths.{literal_array};
 ghost use Rattle.definitions.specs.Lists.{joined, up_from};
 ghost use Rattle.definitions.specs.Words.{Problem};
 ghost use Rattle.definitions.specs.Search.{State};
 ghost use Rattle.definitions.specs.Sheet.{plus};
-ghost use Rattle.definitions.specs.Listing.{fieldBytes, wide, answerNumber, listing as listed, refusalLine};
+ghost use Rattle.definitions.specs.Listing.{field_bytes, wide, answer_number, listing as listed, refusal_line};
 ghost use Rattle.machine.specs.Finished.{Finished};
 ghost use Rattle.listing.specs.Puts.{Put};
-ghost use Rattle.listing.specs.Lines.{columnBytes, rowBytes, codeConstant, constantNumber, codeNumbers, wordNumbers, loggedBytes, logBytes, settingBytes, settingsBytes, countBytes, listingBytes, ClausesListable};
+ghost use Rattle.listing.specs.Lines.{column_bytes, row_bytes, code_constant, constant_number, code_numbers, word_numbers, logged_bytes, log_bytes, setting_bytes, settings_bytes, count_bytes, listing_bytes, ClausesListable};
 
 use definitions::Verdict;
 use encoding::values::Values;
@@ -27,8 +27,8 @@ fn put_end(room: &mut [u8], at: usize) -> usize
 
 // One column of 4 bytes.
 fn put_number(room: &mut [u8], at: usize, negative: bool, size: u16) -> usize
-    requires { (at + length (columnBytes (record { negative = negative; size = size } ∷ [])) ≤ length room.old) × (negative ≡ true → size < 1000) }
-    ensures { Put room.old at (columnBytes (record { negative = negative; size = size } ∷ [])) result room.new }
+    requires { (at + length (column_bytes (record { negative = negative; size = size } ∷ [])) ≤ length room.old) × (negative ≡ true → size < 1000) }
+    ensures { Put room.old at (column_bytes (record { negative = negative; size = size } ∷ [])) result room.new }
 {
     column::put_narrow(room, at, negative, size);
     at + 4
@@ -36,8 +36,8 @@ fn put_number(room: &mut [u8], at: usize, negative: bool, size: u16) -> usize
 
 // One column of 12 bytes.
 fn put_count(room: &mut [u8], at: usize, n: u64) -> usize
-    requires { at + length (fieldBytes (wide n)) ≤ length room.old }
-    ensures { Put room.old at (fieldBytes (wide n)) result room.new }
+    requires { at + length (field_bytes (wide n)) ≤ length room.old }
+    ensures { Put room.old at (field_bytes (wide n)) result room.new }
 {
     column::put_wide(room, at, n);
     at + 12
@@ -45,7 +45,7 @@ fn put_count(room: &mut [u8], at: usize, n: u64) -> usize
 
 // A constant of an atom, by its place from 0.
 fn constant(code: u32, i: usize) -> u16
-    ensures { result ≡ codeConstant code i }
+    ensures { result ≡ code_constant code i }
 {
     if i == 0 {
         return (code / 1024 % 32) as u16 + 1;
@@ -58,8 +58,8 @@ fn constant(code: u32, i: usize) -> u16
 
 // The constants of an atom.
 fn put_constants(room: &mut [u8], at: usize, code: u32, arity: usize) -> usize
-    requires { at + length (columnBytes (map (constantNumber code) (up_from 0 arity))) ≤ length room.old }
-    ensures { Put room.old at (columnBytes (map (constantNumber code) (up_from 0 arity))) result room.new }
+    requires { at + length (column_bytes (map (constant_number code) (up_from 0 arity))) ≤ length room.old }
+    ensures { Put room.old at (column_bytes (map (constant_number code) (up_from 0 arity))) result room.new }
 {
     let mut here = at;
     let mut i: usize = 0;
@@ -79,8 +79,8 @@ fn put_literal(
     negative: bool,
     code: u32,
 ) -> usize
-    requires { at + length (columnBytes (codeNumbers arities.now negative code)) ≤ length room.old }
-    ensures { Put room.old at (columnBytes (codeNumbers arities.now negative code)) result room.new }
+    requires { at + length (column_bytes (code_numbers arities.now negative code)) ≤ length room.old }
+    ensures { Put room.old at (column_bytes (code_numbers arities.now negative code)) result room.new }
 {
     let symbol = (code / 32768 % 16) as usize;
     let arity = encoding::wide8(arities[symbol]);
@@ -98,9 +98,9 @@ fn put_literals(
     from: usize,
     end: usize,
 ) -> usize
-    requires { (from ≤ end) × (end ≤ literalArray) × ((i : ℕ) → i < end → get_or literals.now i 0 < 512)
-        × (at + length (columnBytes (joined (wordNumbers arities.now table.now) (take (end - from) (drop from literals.now)))) ≤ length room.old) }
-    ensures { Put room.old at (columnBytes (joined (wordNumbers arities.now table.now) (take (end - from) (drop from literals.now)))) result room.new }
+    requires { (from ≤ end) × (end ≤ literal_array) × ((i : ℕ) → i < end → get_or literals.now i 0 < 512)
+        × (at + length (column_bytes (joined (word_numbers arities.now table.now) (take (end - from) (drop from literals.now)))) ≤ length room.old) }
+    ensures { Put room.old at (column_bytes (joined (word_numbers arities.now table.now) (take (end - from) (drop from literals.now)))) result room.new }
 {
     let words: &[u16] = literals; // the proof knows a slice's length
     let mut here = at;
@@ -128,8 +128,8 @@ fn put_logged(
     n: usize,
 ) -> usize
     requires { (n < 512) × ClausesListable given (given + n + 1) starts.now literals.now
-        × (at + length (loggedBytes given arities.now starts.now literals.now numbers.now table.now n) ≤ length room.old) }
-    ensures { Put room.old at (loggedBytes given arities.now starts.now literals.now numbers.now table.now n) result room.new }
+        × (at + length (logged_bytes given arities.now starts.now literals.now numbers.now table.now n) ≤ length room.old) }
+    ensures { Put room.old at (logged_bytes given arities.now starts.now literals.now numbers.now table.now n) result room.new }
 {
     let _whole: &[u16] = literals; // the proof knows a slice's length
     let c = given + n;
@@ -158,8 +158,8 @@ fn put_log(
     table: &[u32; ATOMS],
 ) -> usize
     requires { ClausesListable given clauses starts.now literals.now
-        × (at + length (logBytes given clauses arities.now starts.now literals.now numbers.now table.now) ≤ length room.old) }
-    ensures { Put room.old at (logBytes given clauses arities.now starts.now literals.now numbers.now table.now) result room.new }
+        × (at + length (log_bytes given clauses arities.now starts.now literals.now numbers.now table.now) ≤ length room.old) }
+    ensures { Put room.old at (log_bytes given clauses arities.now starts.now literals.now numbers.now table.now) result room.new }
 {
     let logged = clauses - given;
     let mut here = at;
@@ -175,8 +175,8 @@ fn put_log(
 
 // The line of kind 7 of a literal.
 fn put_set(room: &mut [u8], at: usize, arities: &[u8; SYMBOLS], negative: bool, code: u32) -> usize
-    requires { at + length (rowBytes (plus 7 ∷ codeNumbers arities.now negative code)) ≤ length room.old }
-    ensures { Put room.old at (rowBytes (plus 7 ∷ codeNumbers arities.now negative code)) result room.new }
+    requires { at + length (row_bytes (plus 7 ∷ code_numbers arities.now negative code)) ≤ length room.old }
+    ensures { Put room.old at (row_bytes (plus 7 ∷ code_numbers arities.now negative code)) result room.new }
 {
     let one = put_number(room, at, false, 7);
     let two = put_literal(room, one, arities, negative, code);
@@ -192,8 +192,8 @@ fn put_setting(
     values: &Values,
     i: usize,
 ) -> usize
-    requires { (i < 256) × (at + length (settingBytes arities.now table.now values.now i) ≤ length room.old) }
-    ensures { Put room.old at (settingBytes arities.now table.now values.now i) result room.new }
+    requires { (i < 256) × (at + length (setting_bytes arities.now table.now values.now i) ≤ length room.old) }
+    ensures { Put room.old at (setting_bytes arities.now table.now values.now i) result room.new }
 {
     if values::is_unset(values, i) {
         return at;
@@ -212,8 +212,8 @@ fn put_settings(
     table: &[u32; ATOMS],
     values: &Values,
 ) -> usize
-    requires { (atoms ≤ 256) × (at + length (joined (settingBytes arities.now table.now values.now) (up_from 0 atoms)) ≤ length room.old) }
-    ensures { Put room.old at (joined (settingBytes arities.now table.now values.now) (up_from 0 atoms)) result room.new }
+    requires { (atoms ≤ 256) × (at + length (joined (setting_bytes arities.now table.now values.now) (up_from 0 atoms)) ≤ length room.old) }
+    ensures { Put room.old at (joined (setting_bytes arities.now table.now values.now) (up_from 0 atoms)) result room.new }
 {
     let mut here = at;
     let mut i: usize = 0;
@@ -226,7 +226,7 @@ fn put_settings(
 
 // Document 01's number of each answer.
 pub fn number(v: Verdict) -> u16
-    ensures { result ≡ answerNumber v }
+    ensures { result ≡ answer_number v }
 {
     match v {
         Verdict::Unsat => 0,
@@ -246,8 +246,8 @@ fn put_counts(
     decisions: u32,
     conflicts: u64,
 ) -> usize
-    requires { at + length (countBytes verdict atoms logged decisions conflicts) ≤ length room.old }
-    ensures { Put room.old at (countBytes verdict atoms logged decisions conflicts) result room.new }
+    requires { at + length (count_bytes verdict atoms logged decisions conflicts) ≤ length room.old }
+    ensures { Put room.old at (count_bytes verdict atoms logged decisions conflicts) result room.new }
 {
     let answer = number(verdict);
     let one = put_number(room, at, false, 5);
@@ -269,8 +269,8 @@ fn put_last(
     table: &[u32; ATOMS],
     values: &Values,
 ) -> usize
-    requires { (atoms ≤ 256) × (at + length (settingsBytes verdict atoms arities.now table.now values.now) ≤ length room.old) }
-    ensures { Put room.old at (settingsBytes verdict atoms arities.now table.now values.now) result room.new }
+    requires { (atoms ≤ 256) × (at + length (settings_bytes verdict atoms arities.now table.now values.now) ≤ length room.old) }
+    ensures { Put room.old at (settings_bytes verdict atoms arities.now table.now values.now) result room.new }
 {
     match verdict {
         Verdict::Unsat => at,
@@ -295,8 +295,8 @@ fn put_lines(
     values: &Values,
 ) -> usize
     requires { (run.atoms ≤ 256) × ClausesListable given run.clauses starts.now literals.now
-        × (at + length (listingBytes verdict run given arities.now starts.now literals.now numbers.now table.now values.now) ≤ length room.old) }
-    ensures { Put room.old at (listingBytes verdict run given arities.now starts.now literals.now numbers.now table.now values.now) result room.new }
+        × (at + length (listing_bytes verdict run given arities.now starts.now literals.now numbers.now table.now values.now) ≤ length room.old) }
+    ensures { Put room.old at (listing_bytes verdict run given arities.now starts.now literals.now numbers.now table.now values.now) result room.new }
 {
     let logged = (run.clauses - given) as u16;
     let one = put_counts(
@@ -348,8 +348,8 @@ pub fn put_listing(
 
 // The line of kind 9 of a refusal, at the front of the room: how many bytes it has.
 pub fn put_refusal(room: &mut [u8], number: u8, line: u16) -> usize
-    requires { length (refusalLine number line) ≤ length room.old }
-    ensures { Put room.old 0 (refusalLine number line) result room.new }
+    requires { length (refusal_line number line) ≤ length room.old }
+    ensures { Put room.old 0 (refusal_line number line) result room.new }
 {
     let question = encoding::widened(number);
     let one = put_number(room, 0, false, 9);

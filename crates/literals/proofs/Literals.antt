@@ -11,15 +11,15 @@ use borrow.Author.Tests.{le-leb, lt-leb, eqb-true, eqb-false}
 use Rattle.definitions.specs.Lists.{joined}
 use Rattle.definitions.specs.Words.{Term, Pattern}
 use Rattle.definitions.specs.Sheet.{Number}
-use Rattle.definitions.specs.Questions.{Asked, no, yes, ◌>>=◌, ◌>>◌, ask, Parsed, arguments, literal, literals, patternOf}
+use Rattle.definitions.specs.Questions.{Asked, no, yes, ◌>>=◌, ◌>>◌, ask, Parsed, arguments, literal, literals, pattern_of}
 use Rattle.theory.specs.Tests.{by-test, true-and-false}
 use Rattle.theory.specs.AskedLaws.{by-asked}
 use Rattle.column.specs.Sets.{sets-append}
 use Rattle.encoding.specs.Signs.{word_of, number_of}
 use Rattle.literals.specs.SlotReads.{argument, TermsRead, SlotRead, SlotsRead}
-use Rattle.encoding.specs.Slots.{patternWords, slotWords}
+use Rattle.encoding.specs.Slots.{pattern_words, slot_words}
 use Rattle.literals.specs.SlotReadLaws.{prefixed, prefixed-nil, prefixed-twice, rest-length, arguments-rest, literal-read, literal-rest}
-use Rattle.encoding.specs.SlotLaws.{slotWords-length, slotWords-append, slotWords-one}
+use Rattle.encoding.specs.SlotLaws.{slot_words-length, slot_words-append, slot_words-one}
 use Rattle.literals.proofs.Terms.{column-at}
 
 -- ── one literal ──
@@ -36,19 +36,19 @@ word-again w =
     by_zero r n h = omega arith
 
 module _ (a : Number → Asked Term) (arities : List ℕ) (n : Number) (ns : List Number) where
-  undeclared : (leb 1 n.size && leb n.size (length arities)) ≡ false → literal a patternOf arities (n ∷ ns) ≡ no 10
+  undeclared : (leb 1 n.size && leb n.size (length arities)) ≡ false → literal a pattern_of arities (n ∷ ns) ≡ no 10
   unfolding literal ask ◌>>◌
   undeclared e = rw e
 
   declared : 1 ≤ n.size → n.size ≤ length arities
-      → literal a patternOf arities (n ∷ ns)
-      ≡ (arguments a (get_or arities (n.size - 1) 0) ns >>= λ w. yes (record { found = patternOf (not n.negative) n.size w.found; left = w.left }))
+      → literal a pattern_of arities (n ∷ ns)
+      ≡ (arguments a (get_or arities (n.size - 1) 0) ns >>= λ w. yes (record { found = pattern_of (not n.negative) n.size w.found; left = w.left }))
   unfolding literal ask ◌>>◌
   declared l h = rw (le-leb 1 n.size l, le-leb n.size (length arities) h)
 
 module _ (rule : Bool) (constants : ℕ) (arities line : List ℕ) (at base : ℕ) (before now : List ℕ) where
   abbrev whole : Asked (Parsed Pattern)
-  whole = literal (argument rule constants) patternOf arities (drop at (map number_of line))
+  whole = literal (argument rule constants) pattern_of arities (drop at (map number_of line))
 
   refused : (q : ℕ) → whole ≡ no q → SlotRead whole (length line) 0 base before now
   refused q e = rw e refl
@@ -76,7 +76,7 @@ module _ (rule : Bool) (constants : ℕ) (arities line : List ℕ) (at base : �
       abbrev args : Asked (Parsed (List Term))
       args = arguments (argument rule constants) arity behind
 
-      told : whole ≡ (args >>= λ w. yes (record { found = patternOf (not (eqb (get_or line at 0 % 2) 1)) (get_or line at 0 / 2) w.found; left = w.left }))
+      told : whole ≡ (args >>= λ w. yes (record { found = pattern_of (not (eqb (get_or line at 0 % 2) 1)) (get_or line at 0 / 2) w.found; left = w.left }))
       unfolding number_of
       told =
           let some : 1 ≤ v / 2 = omega arith in
@@ -91,15 +91,15 @@ module _ (rule : Bool) (constants : ℕ) (arities line : List ℕ) (at base : �
           (λ w e. true-and-false (rw e at r).0 f)
 
       pub slot-filled : {b : Bool} → b ≡ true → TermsRead args b (base + 1) (set before base (get_or line at 0)) now → SlotRead whole (length line) (at + 1 + arity) base before now
-      unfolding ◌>>=◌ patternOf patternWords
+      unfolding ◌>>=◌ pattern_of pattern_words
       slot-filled t r =
           by-asked args
           (λ q e. true-and-false t (rw e at r))
           (λ w e.
-          let filled : whole ≡ yes (record { found = patternOf (not (eqb (get_or line at 0 % 2) 1)) (get_or line at 0 / 2) w.found; left = w.left }) = told ∙ rw e in
+          let filled : whole ≡ yes (record { found = pattern_of (not (eqb (get_or line at 0 % 2) 1)) (get_or line at 0 / 2) w.found; left = w.left }) = told ∙ rw e in
           let next : base + 1 ≡ suc base = omega arith in
           let left = rest-length arity behind w.left (arguments-rest (argument rule constants) arity behind w e) in
-          let words : now ≡ sets before base (patternWords (patternOf (not (eqb (get_or line at 0 % 2) 1)) (get_or line at 0 / 2) w.found)) = rw (word-again (get_or line at 0)) (rw (e, next) at r).1 in
+          let words : now ≡ sets before base (pattern_words (pattern_of (not (eqb (get_or line at 0 % 2) 1)) (get_or line at 0 / 2) w.found)) = rw (word-again (get_or line at 0)) (rw (e, next) at r).1 in
           rw filled (omega (arith, left, length-drop (at + 1) (map number_of line), length-map line number_of), words))
 
 -- ── several literals ──
@@ -109,30 +109,30 @@ pub record SlotsSoFar (whole rest : Asked (Parsed (List Pattern))) (i : ℕ) (be
   pub patterns : List Pattern
   pub count : length patterns ≡ i
   pub split : whole ≡ prefixed patterns rest
-  pub words : now ≡ sets before 0 (slotWords patterns)
+  pub words : now ≡ sets before 0 (slot_words patterns)
 
 -- the walk over the literals from this one on, at this column
-unfoldable pub literalsFrom : Bool → ℕ → List ℕ → List ℕ → ℕ → ℕ → ℕ → Asked (Parsed (List Pattern))
-literalsFrom rule constants arities line count at i = literals (argument rule constants) patternOf arities (count - i) (drop at (map number_of line))
+unfoldable pub literals_from : Bool → ℕ → List ℕ → List ℕ → ℕ → ℕ → ℕ → Asked (Parsed (List Pattern))
+literals_from rule constants arities line count at i = literals (argument rule constants) pattern_of arities (count - i) (drop at (map number_of line))
 
 module _ (rule : Bool) (constants : ℕ) (arities line : List ℕ) (count at i : ℕ) where
   abbrev next-literal : Asked (Parsed Pattern)
-  next-literal = literal (argument rule constants) patternOf arities (drop at (map number_of line))
+  next-literal = literal (argument rule constants) pattern_of arities (drop at (map number_of line))
 
   module _ (l : i < count) where
     more : count - i ≡ suc (count - (i + 1))
     more = omega arith
 
-    from-no : (q : ℕ) → next-literal ≡ no q → literalsFrom rule constants arities line count at i ≡ no q
-    unfolding literalsFrom literals ◌>>=◌
+    from-no : (q : ℕ) → next-literal ≡ no q → literals_from rule constants arities line count at i ≡ no q
+    unfolding literals_from literals ◌>>=◌
     from-no q e = rw (more, e)
 
     from-yes : (w : Parsed Pattern) → next-literal ≡ yes w → (next : ℕ) → w.left ≡ drop next (map number_of line)
-        → literalsFrom rule constants arities line count at i ≡ prefixed (w.found ∷ []) (literalsFrom rule constants arities line count next (i + 1))
-    unfolding literalsFrom literals ◌>>=◌ prefixed
+        → literals_from rule constants arities line count at i ≡ prefixed (w.found ∷ []) (literals_from rule constants arities line count next (i + 1))
+    unfolding literals_from literals ◌>>=◌ prefixed
     from-yes w e next left =
         rw (more, e, left)
-        (by-asked (literals (argument rule constants) patternOf arities (count - (i + 1)) (drop next (map number_of line)))
+        (by-asked (literals (argument rule constants) pattern_of arities (count - (i + 1)) (drop next (map number_of line)))
         (λ q f. cc)
         (λ v f. cc))
 
@@ -140,9 +140,9 @@ module _ (rule : Bool) (constants : ℕ) (arities line : List ℕ) (count at i :
   passed : (w : Parsed Pattern) → next-literal ≡ yes w → at ≤ length line → (next : ℕ) → next + length w.left ≡ length line
       → (at < next) × (next ≤ length line) × (w.left ≡ drop next (map number_of line))
   passed w e within next same =
-      let r = literal-read (argument rule constants) patternOf arities (drop at (map number_of line)) w e in
+      let r = literal-read (argument rule constants) pattern_of arities (drop at (map number_of line)) w e in
       let k = suc (get_or arities (r.column.size - 1) 0) in
-      let rest = literal-rest (argument rule constants) patternOf arities (drop at (map number_of line)) w r in
+      let rest = literal-rest (argument rule constants) pattern_of arities (drop at (map number_of line)) w r in
       let size = rest-length k (drop at (map number_of line)) w.left rest in
       let behind = length-drop at (map number_of line) in
       let all = length-map line number_of in
@@ -151,40 +151,40 @@ module _ (rule : Bool) (constants : ℕ) (arities line : List ℕ) (count at i :
 
 module _ (rule : Bool) (constants : ℕ) (arities line : List ℕ) (from count : ℕ) (before : List ℕ) where
   abbrev all : Asked (Parsed (List Pattern))
-  all = literals (argument rule constants) patternOf arities count (drop from (map number_of line))
+  all = literals (argument rule constants) pattern_of arities count (drop from (map number_of line))
 
-  pub fill_start : SlotsSoFar all (literalsFrom rule constants arities line count from 0) 0 before before
-  unfolding literalsFrom slotWords joined
+  pub fill_start : SlotsSoFar all (literals_from rule constants arities line count from 0) 0 before before
+  unfolding literals_from slot_words joined
   fill_start =
       let none : count - 0 ≡ count = omega arith in
       record { patterns = []; count = refl; split = rw none (sym (prefixed-nil all)); words = refl }
 
-  module _ (at i : ℕ) (now : List ℕ) (within : at ≤ length line) (so : SlotsSoFar all (literalsFrom rule constants arities line count at i) i before now) where
+  module _ (at i : ℕ) (now : List ℕ) (within : at ≤ length line) (so : SlotsSoFar all (literals_from rule constants arities line count at i) i before now) where
     pub fill_end : count ≤ i → SlotsRead all (length line) at before now
-    unfolding literalsFrom literals prefixed
+    unfolding literals_from literals prefixed
     fill_end l =
         let none : count - i ≡ 0 = omega arith in
         let rest = drop at (map number_of line) in
         let w : all ≡ yes (record { found = so.patterns; left = rest }) = so.split ∙ rw (none, append-nil so.patterns) in
         rw w (omega (arith, length-drop at (map number_of line), length-map line number_of), so.words)
 
-    put : i < count → (w : Parsed Pattern) → literal (argument rule constants) patternOf arities (drop at (map number_of line)) ≡ yes w
-        → (next : ℕ) → w.left ≡ drop next (map number_of line) → (after : List ℕ) → after ≡ sets now (4 * i) (patternWords w.found)
-        → SlotsSoFar all (literalsFrom rule constants arities line count next (i + 1)) (i + 1) before after
+    put : i < count → (w : Parsed Pattern) → literal (argument rule constants) pattern_of arities (drop at (map number_of line)) ≡ yes w
+        → (next : ℕ) → w.left ≡ drop next (map number_of line) → (after : List ℕ) → after ≡ sets now (4 * i) (pattern_words w.found)
+        → SlotsSoFar all (literals_from rule constants arities line count next (i + 1)) (i + 1) before after
     put l w e next left after words =
-        let rest = literalsFrom rule constants arities line count next (i + 1) in
+        let rest = literals_from rule constants arities line count next (i + 1) in
         let split : all ≡ prefixed so.patterns (prefixed (w.found ∷ []) rest) = so.split ∙ ap (prefixed so.patterns) (from-yes rule constants arities line count at i l w e next left) in
-        let place : 4 * i ≡ 0 + length (slotWords so.patterns) = omega (arith, slotWords-length so.patterns, so.count) in
+        let place : 4 * i ≡ 0 + length (slot_words so.patterns) = omega (arith, slot_words-length so.patterns, so.count) in
         record {
           patterns = so.patterns ++ (w.found ∷ []);
           count = omega (arith, length-append so.patterns (w.found ∷ []), so.count);
           split = split ∙ prefixed-twice so.patterns (w.found ∷ []) rest;
-          words = words ∙ rw (so.words, place, sets-append, slotWords-append so.patterns (w.found ∷ []), slotWords-one);
+          words = words ∙ rw (so.words, place, sets-append, slot_words-append so.patterns (w.found ∷ []), slot_words-one);
         }
 
-    module _ (l : i < count) (next : ℕ) (after : List ℕ) (read : SlotRead (literal (argument rule constants) patternOf arities (drop at (map number_of line))) (length line) next (4 * i) now after) where
+    module _ (l : i < count) (next : ℕ) (after : List ℕ) (read : SlotRead (literal (argument rule constants) pattern_of arities (drop at (map number_of line))) (length line) next (4 * i) now after) where
       abbrev here : Asked (Parsed Pattern)
-      here = literal (argument rule constants) patternOf arities (drop at (map number_of line))
+      here = literal (argument rule constants) pattern_of arities (drop at (map number_of line))
 
       pub fill-refused : next ≡ 0 → SlotsRead all (length line) 0 before after
       unfolding prefixed
@@ -193,7 +193,7 @@ module _ (rule : Bool) (constants : ℕ) (arities line : List ℕ) (from count :
           (λ q e. let w : all ≡ no q = so.split ∙ rw (from-no rule constants arities line count at i l q e) in rw w refl)
           (λ w e. absurd (omega (arith, (passed rule constants arities line count at i w e within next (rw e at read).0).0, z)))
 
-      pub fill-turn : (next ≡ 0 → ⊥) → (next ≤ length line) × SlotsSoFar all (literalsFrom rule constants arities line count next (i + 1)) (i + 1) before after
+      pub fill-turn : (next ≡ 0 → ⊥) → (next ≤ length line) × SlotsSoFar all (literals_from rule constants arities line count next (i + 1)) (i + 1) before after
       fill-turn z =
           by-asked here
           (λ q e. absurd (z (rw e at read)))

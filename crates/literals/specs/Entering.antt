@@ -17,8 +17,8 @@ abbrev pub ClauseSlots : List ℕ → ℕ → Type 0
 ClauseSlots slots count = (i : ℕ) → i < count → ClauseSlot slots (4 * i)
 
 -- the code of the atom in a slot whose terms are constants
-unfoldable pub slotCode : List ℕ → ℕ → ℕ
-slotCode slots base =
+unfoldable pub slot_code : List ℕ → ℕ → ℕ
+slot_code slots base =
     code_of (get_or slots base 0 / 2 - 1) (get_or slots (base + 1) 0 - 7) (get_or slots (base + 2) 0 - 7) (get_or slots (base + 3) 0 - 7)
 
 -- the number of atoms and of literals, and the arrays that a clause changes
@@ -33,21 +33,21 @@ abbrev pub entered : ℕ → ℕ → List ℕ → List ℕ → List ℕ → Ente
 entered a n l t i = record { atoms = a; count = n; literals = l; table = t; index = i }
 
 -- one literal, by its atom's code and its sign
-unfoldable pub enterLiteral : ℕ → ℕ → Entered → Entered
-enterLiteral code sign e =
+unfoldable pub enter_literal : ℕ → ℕ → Entered → Entered
+enter_literal code sign e =
     elim (eqb (get_or e.index code 0) 0) [
       | true ↦ entered (e.atoms + 1) (e.count + 1) (set e.literals e.count (2 * e.atoms + sign)) (set e.table e.atoms code) (set e.index code (e.atoms + 1))
       | false ↦ entered e.atoms (e.count + 1) (set e.literals e.count (2 * (get_or e.index code 0 - 1) + sign)) e.table e.index
     ]
 
 -- so many slots from this one on
-unfoldable pub enterSlots : List ℕ → ℕ → ℕ → Entered → Entered
-enterSlots slots i zero e = e
-enterSlots slots i (suc n) e = enterSlots slots (i + 1) n (enterLiteral (slotCode slots (4 * i)) (get_or slots (4 * i) 0 % 2) e)
+unfoldable pub enter_slots : List ℕ → ℕ → ℕ → Entered → Entered
+enter_slots slots i zero e = e
+enter_slots slots i (suc n) e = enter_slots slots (i + 1) n (enter_literal (slot_code slots (4 * i)) (get_or slots (4 * i) 0 % 2) e)
 
 -- lent: the arrays by both counts, and what a function that enters literals leaves there
-abbrev pub lentEntered : Lent → Lent → Lent → Both (ℕ → ℕ → Entered) (ℕ → ℕ → Entered)
-lentEntered literals table index =
+abbrev pub lent_entered : Lent → Lent → Lent → Both (ℕ → ℕ → Entered) (ℕ → ℕ → Entered)
+lent_entered literals table index =
     record {
       entry = λ atoms count. entered atoms count literals.entry.now table.entry.now index.entry.now;
       exit = λ atoms count. entered atoms count literals.exit.now table.exit.now index.exit.now;

@@ -8,22 +8,22 @@ use Rattle.std.proofs.Math.ListN.{length, replicate, get_or-append}
 use Rattle.std.proofs.Math.Seq.{get_or-take}
 use Rattle.definitions.specs.Lists.{joined}
 use Rattle.definitions.specs.Words.{Term, constant, Pattern}
-use Rattle.definitions.specs.Instances.{termValue, ground}
+use Rattle.definitions.specs.Instances.{term_value, ground}
 use Rattle.theory.specs.ListLaws.{Each}
-use Rattle.encoding.specs.Slots.{asPattern, termWord, termWords, patternWords, slotWords}
+use Rattle.encoding.specs.Slots.{as_pattern, term_word, term_words, pattern_words, slot_words}
 use Rattle.literals.specs.SlotReadLaws.{TermInRange, constant-only, PatternRead}
-use Rattle.encoding.specs.SlotLaws.{termWords-length, pattern-length}
-use Rattle.encoding.specs.Signs.{wordOf-half}
-use Rattle.literals.specs.Entering.{ClauseSlot, ClauseSlots, slotCode, Entered, enterSlots}
+use Rattle.encoding.specs.SlotLaws.{term_words-length, pattern-length}
+use Rattle.encoding.specs.Signs.{word_of-half}
+use Rattle.literals.specs.Entering.{ClauseSlot, ClauseSlots, slot_code, Entered, enter_slots}
 
 -- ── the limits ──
 
 module _ (constants : ℕ) (few : constants ≤ 32) where
-  term-small : (t : Term) → TermInRange false constants t → termWord t ≤ 38
-  unfolding termWord
+  term-small : (t : Term) → TermInRange false constants t → term_word t ≤ 38
+  unfolding term_word
   term-small t h = let (c, e, low, high) = constant-only constants t h in rw e (omega arith)
 
-  padded-small : (ts : List Term) (k i : ℕ) → Each (TermInRange false constants) ts → get_or (map termWord ts ++ replicate k 0) i 0 ≤ 38
+  padded-small : (ts : List Term) (k i : ℕ) → Each (TermInRange false constants) ts → get_or (map term_word ts ++ replicate k 0) i 0 ≤ 38
   padded-small [] k i h = zeros-small k i
     where
       zeros-small : (k i : ℕ) → get_or (replicate k 0) i 0 ≤ 38
@@ -33,17 +33,17 @@ module _ (constants : ℕ) (few : constants ≤ 32) where
   padded-small (t ∷ ts) k zero h = term-small t (h t (Memᴰ.head refl))
   padded-small (t ∷ ts) k (suc i) h = padded-small ts k i (λ u m. h u (Memᴰ.tail m))
 
-  terms-small : (ts : List Term) (rest : List ℕ) (i : ℕ) → i < 3 → Each (TermInRange false constants) ts → get_or (termWords ts ++ rest) i 0 ≤ 38
-  unfolding termWords
+  terms-small : (ts : List Term) (rest : List ℕ) (i : ℕ) → i < 3 → Each (TermInRange false constants) ts → get_or (term_words ts ++ rest) i 0 ≤ 38
+  unfolding term_words
   terms-small ts rest i l h =
-      rw (get_or-append (termWords ts) rest 0 i (omega (arith, termWords-length ts)), get_or-take 3 (map termWord ts ++ replicate 3 0) i 0 l)
+      rw (get_or-append (term_words ts) rest 0 i (omega (arith, term_words-length ts)), get_or-take 3 (map term_word ts ++ replicate 3 0) i 0 l)
       (padded-small ts 3 i h)
 
   module _ (arities : List ℕ) (declared : length arities ≤ 16) where
-    pattern-slot : (x : Pattern) (rest : List ℕ) → PatternRead false constants arities x → ClauseSlot (patternWords x ++ rest) 0
-    unfolding patternWords
+    pattern-slot : (x : Pattern) (rest : List ℕ) → PatternRead false constants arities x → ClauseSlot (pattern_words x ++ rest) 0
+    unfolding pattern_words
     pattern-slot x rest r =
-        let e = wordOf-half (not x.positive) x.symbol in
+        let e = word_of-half (not x.positive) x.symbol in
         record {
           symbol = omega (arith, r.symbol);
           declared = omega (arith, r.declared);
@@ -80,43 +80,43 @@ slot-front n slots base h s =
     }
 
 module _ (constants : ℕ) (few : constants ≤ 32) (arities : List ℕ) (declared : length arities ≤ 16) where
-  words-limits : (xs : List Pattern) → Each (PatternRead false constants arities) xs → ClauseSlots (slotWords xs) (length xs)
-  unfolding slotWords joined
+  words-limits : (xs : List Pattern) → Each (PatternRead false constants arities) xs → ClauseSlots (slot_words xs) (length xs)
+  unfolding slot_words joined
   words-limits [] r i h = absurd (omega arith)
-  words-limits (x ∷ xs) r zero h = pattern-slot constants few arities declared x (slotWords xs) (r x (Memᴰ.head refl))
+  words-limits (x ∷ xs) r zero h = pattern-slot constants few arities declared x (slot_words xs) (r x (Memᴰ.head refl))
   words-limits (x ∷ xs) r (suc i) h =
-      let e : 4 * suc i ≡ length (patternWords x) + 4 * i = omega (arith, pattern-length x) in
-      rw e (slot-behind (patternWords x) (slotWords xs) (4 * i) (words-limits xs (λ y m. r y (Memᴰ.tail m)) i (omega arith)))
+      let e : 4 * suc i ≡ length (pattern_words x) + 4 * i = omega (arith, pattern-length x) in
+      rw e (slot-behind (pattern_words x) (slot_words xs) (4 * i) (words-limits xs (λ y m. r y (Memᴰ.tail m)) i (omega arith)))
 
   pub slots-limits : (xs : List Pattern) → Each (PatternRead false constants arities) xs
-      → (slots : List ℕ) (count : ℕ) → length xs ≡ count → take (4 * count) slots ≡ slotWords xs → ClauseSlots slots count
+      → (slots : List ℕ) (count : ℕ) → length xs ≡ count → take (4 * count) slots ≡ slot_words xs → ClauseSlots slots count
   slots-limits xs r slots count l e i h =
       slot-front (4 * count) slots (4 * i) (omega arith) (rw e (words-limits xs r i (omega arith)))
 
 -- ── the clause by its slots ──
 
 -- only the words of the slots count
-enter-same : (a b : List ℕ) (i n : ℕ) (e : Entered) → ((j : ℕ) → j < 4 * (i + n) → get_or a j 0 ≡ get_or b j 0) → enterSlots a i n e ≡ enterSlots b i n e
-unfolding enterSlots slotCode
+enter-same : (a b : List ℕ) (i n : ℕ) (e : Entered) → ((j : ℕ) → j < 4 * (i + n) → get_or a j 0 ≡ get_or b j 0) → enter_slots a i n e ≡ enter_slots b i n e
+unfolding enter_slots slot_code
 enter-same a b i zero e h = refl
 enter-same a b i (suc n) e h =
     rw (h (4 * i) (omega arith), h (4 * i + 1) (omega arith), h (4 * i + 2) (omega arith), h (4 * i + 3) (omega arith))
     (enter-same a b (i + 1) n _ (λ j l. h j (omega arith)))
 
-pub enter-front : (slots words : List ℕ) (count : ℕ) (e : Entered) → take (4 * count) slots ≡ words → enterSlots slots 0 count e ≡ enterSlots words 0 count e
+pub enter-front : (slots words : List ℕ) (count : ℕ) (e : Entered) → take (4 * count) slots ≡ words → enter_slots slots 0 count e ≡ enter_slots words 0 count e
 enter-front slots words count e h =
     enter-same slots words 0 count e (λ j l. sym (get_or-take (4 * count) slots j 0 (omega arith)) ∙ ap (λ (ws : List ℕ). get_or ws j 0) h)
 
 -- a pattern whose terms are constants is its literal's
-constants-kept : (constants : ℕ) (ts : List Term) → Each (TermInRange false constants) ts → map constant (map (termValue []) ts) ≡ ts
-unfolding termValue
+constants-kept : (constants : ℕ) (ts : List Term) → Each (TermInRange false constants) ts → map constant (map (term_value []) ts) ≡ ts
+unfolding term_value
 constants-kept constants [] h = refl
 constants-kept constants (t ∷ ts) h =
     let (c, e, low, high) = constant-only constants t (h t (Memᴰ.head refl)) in
     rw (constants-kept constants ts (λ u m. h u (Memᴰ.tail m)), e)
 
-pub patterns-kept : (constants : ℕ) (arities : List ℕ) (xs : List Pattern) → Each (PatternRead false constants arities) xs → map asPattern (map (ground []) xs) ≡ xs
-unfolding asPattern ground
+pub patterns-kept : (constants : ℕ) (arities : List ℕ) (xs : List Pattern) → Each (PatternRead false constants arities) xs → map as_pattern (map (ground []) xs) ≡ xs
+unfolding as_pattern ground
 patterns-kept constants arities [] r = refl
 patterns-kept constants arities (x ∷ xs) r =
     rw (constants-kept constants x.terms (r x (Memᴰ.head refl)).in_range, patterns-kept constants arities xs (λ y m. r y (Memᴰ.tail m)))

@@ -9,9 +9,9 @@ use native.Mathlib.Omega.{arith}
 use Rattle.std.proofs.Math.Dec.{leb}
 use Rattle.std.proofs.Math.ListN.{length}
 use Rattle.definitions.specs.Words.{Term, variable, constant, Pattern}
-use Rattle.definitions.specs.Instances.{termValue, ground}
+use Rattle.definitions.specs.Instances.{term_value, ground}
 use Rattle.definitions.specs.Sheet.{Number}
-use Rattle.definitions.specs.Questions.{Asked, no, yes, ◌>>=◌, ◌>>◌, ask, Parsed, within, ruleArgument, clauseArgument, arguments, literal, literals, patternOf, literalOf, clauseLiterals}
+use Rattle.definitions.specs.Questions.{Asked, no, yes, ◌>>=◌, ◌>>◌, ask, Parsed, within, rule_argument, clause_argument, arguments, literal, literals, pattern_of, literal_of, clause_literals}
 use Rattle.theory.specs.Tests.{by-test, apart, true-and-false}
 use Rattle.theory.specs.ListLaws.{Each, each_nil, each-cons}
 use Rattle.theory.specs.AskedLaws.{no≢yes, yes-injective, by-asked, bind-yes, ask-yes}
@@ -226,11 +226,11 @@ module _ {A : Type 0} (a : Number → Asked A) (h : (n : Number) → RefusesAt 1
         bind-refuses 10 (literals a make arities k l.left) _ (literals-refuse k l.left) λ w. yes-refuses 10 _
 
 argument-refuses : (rule : Bool) (constants : ℕ) (n : Number) → RefusesAt 10 (argument rule constants n)
-unfolding argument ruleArgument
+unfolding argument rule_argument
 argument-refuses true constants n =
     by-test n.negative
-    (λ s. rw (s, ruleArgument) (ask-refuses 10 _ _ (yes-refuses 10 _)))
-    (λ s. rw (s, ruleArgument) (ask-refuses 10 _ _ (yes-refuses 10 _)))
+    (λ s. rw (s, rule_argument) (ask-refuses 10 _ _ (yes-refuses 10 _)))
+    (λ s. rw (s, rule_argument) (ask-refuses 10 _ _ (yes-refuses 10 _)))
 argument-refuses false constants n = ask-refuses 10 _ _ (yes-refuses 10 _)
 
 pub literals-refusal : {L : Type 0} (rule : Bool) (constants : ℕ) (make : Bool → ℕ → List Term → L) (arities : List ℕ) (k : ℕ) (ns : List Number) (q : ℕ)
@@ -277,17 +277,17 @@ module _ {A B L M : Type 0} (f : A → B) (g : L → M) (a : Number → Asked A)
       (λ q e. cc)
       (λ l e. let rest = literals-map k l.left in by-asked (literals a make arities k l.left) (λ q h. cc) (λ w h. cc))
 
-clause-argument : (constants : ℕ) (n : Number) → clauseArgument constants n ≡ (argument false constants n >>= λ t. yes (termValue [] t))
-unfolding clauseArgument argument ask ◌>>◌ ◌>>=◌ termValue
+clause-argument : (constants : ℕ) (n : Number) → clause_argument constants n ≡ (argument false constants n >>= λ t. yes (term_value [] t))
+unfolding clause_argument argument ask ◌>>◌ ◌>>=◌ term_value
 clause-argument constants n = by-test (within 1 constants n) (λ t. cc) (λ t. cc)
 
 -- a clause is read as patterns whose terms are constants
 pub clause-literals : (constants : ℕ) (arities : List ℕ) (k : ℕ) (ns : List Number)
-    → clauseLiterals constants arities k ns
-    ≡ (literals (argument false constants) patternOf arities k ns >>= λ w. yes (record { found = map (ground []) w.found; left = w.left }))
-unfolding ground patternOf literalOf clauseLiterals
+    → clause_literals constants arities k ns
+    ≡ (literals (argument false constants) pattern_of arities k ns >>= λ w. yes (record { found = map (ground []) w.found; left = w.left }))
+unfolding ground pattern_of literal_of clause_literals
 clause-literals constants arities =
-    literals-map (termValue []) (ground []) (argument false constants) (clauseArgument constants) patternOf literalOf arities
+    literals-map (term_value []) (ground []) (argument false constants) (clause_argument constants) pattern_of literal_of arities
     (clause-argument constants)
     (λ positive symbol ts. refl)
 
@@ -299,7 +299,7 @@ TermInRange rule constants (variable v) = (rule ≡ true) × (1 ≤ v) × (v ≤
 TermInRange rule constants (constant c) = (1 ≤ c) × (c ≤ constants)
 
 pub argument-in-range : (rule : Bool) (constants : ℕ) (n : Number) (t : Term) → argument rule constants n ≡ yes t → TermInRange rule constants t
-unfolding argument ruleArgument
+unfolding argument rule_argument
 argument-in-range true constants n t e =
     by-test n.negative
     (λ s.
@@ -337,10 +337,10 @@ pub record PatternRead (rule : Bool) (constants : ℕ) (arities : List ℕ) (x :
   pub in_range : Each (TermInRange rule constants) x.terms
 
 pub patterns-read : (rule : Bool) (constants : ℕ) (arities : List ℕ) (k : ℕ) (ns : List Number) (w : Parsed (List Pattern))
-    → literals (argument rule constants) patternOf arities k ns ≡ yes w → Each (PatternRead rule constants arities) w.found
-unfolding patternOf
+    → literals (argument rule constants) pattern_of arities k ns ≡ yes w → Each (PatternRead rule constants arities) w.found
+unfolding pattern_of
 patterns-read rule constants arities =
-    literals-each (argument rule constants) patternOf arities (PatternRead rule constants arities)
+    literals-each (argument rule constants) pattern_of arities (PatternRead rule constants arities)
     λ ns w r.
     rw r.found
     (record {

@@ -12,8 +12,8 @@ use Rattle.machine.specs.declared.Ended.{Ended}
 -- the arrays stand for the state in which the search of a problem ended, and for the arities of its symbols
 pub record Finished (p : Problem) (budget : ℕ) (s : State) (ended : Ended) (given : ℕ) (arities starts literals numbers table : List ℕ) (values : Values) : Type 0 where
   pub limits : Searchable p
-  pub itsArities : (i : ℕ) → i < length p.arities → get_or arities i 0 ≡ get_or p.arities i 0
-  pub itsClauses : given ≡ length p.clauses
+  pub its_arities : (i : ℕ) → i < length p.arities → get_or arities i 0 ≡ get_or p.arities i 0
+  pub its_clauses : given ≡ length p.clauses
   pub heads : List ℕ
   pub index : List ℕ
   pub trail : List ℕ
@@ -29,7 +29,7 @@ pub record AtEnd (p : Problem) (budget : ℕ) (ended : Ended) (given : ℕ) (ari
 pub at-end : (p : Problem) (budget : ℕ) (ended : Ended) (m : Machine) (given : ℕ) (arities : List ℕ) → Searchable p
     → ((i : ℕ) → i < length p.arities → get_or arities i 0 ≡ get_or p.arities i 0) → given ≡ length p.clauses
     → EndStands p budget (search p budget) ended m → AtEnd p budget ended given arities m.store.starts m.store.literals m.store.numbers m.table.codes m.trail.values
-at-end p budget ended m given arities limits itsArities itsClauses ends = from (search p budget) refl ends
+at-end p budget ended m given arities limits its_arities its_clauses ends = from (search p budget) refl ends
   where
     from : (o : Outcome) → search p budget ≡ o → EndStands p budget o ended m → AtEnd p budget ended given arities m.store.starts m.store.literals m.store.numbers m.table.codes m.trail.values
     from (more s) e h = absurd h
@@ -40,8 +40,8 @@ at-end p budget ended m given arities limits itsArities itsClauses ends = from (
           comes = e ∙ ap (λ (w : Verdict). done w s) (sym same);
           finished = record {
             limits = limits;
-            itsArities = itsArities;
-            itsClauses = itsClauses;
+            its_arities = its_arities;
+            its_clauses = its_clauses;
             heads = m.store.heads;
             index = m.table.index;
             trail = m.trail.words;

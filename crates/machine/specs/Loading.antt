@@ -4,30 +4,30 @@ use Rattle.std.proofs.Common.{sym, ap, subst, ◌∙◌}
 use Rattle.std.proofs.lemmas.List.{length-replicate}
 use Rattle.std.proofs.lemmas.List.Edits.{sets}
 use Rattle.std.proofs.Math.Seq.{length-sets}
-use Rattle.encoding.specs.Lengths.{literalArray, ruleArray, startArray}
+use Rattle.encoding.specs.Lengths.{literal_array, rule_array, start_array}
 use Rattle.definitions.specs.Lists.{joined}
-use Rattle.definitions.specs.Words.{Problem, goalAtoms}
+use Rattle.definitions.specs.Words.{Problem, goal_atoms}
 use Rattle.definitions.specs.Instances.{task_of}
 use Rattle.definitions.specs.Search.{start, search}
 use Rattle.definitions.specs.Questions.{read, accepted}
 use Rattle.theory.specs.Limits.{limits-searchable, accepted-limits}
-use Rattle.encoding.specs.Slots.{ruleWords}
-use Rattle.encoding.specs.Values.{noValues}
-use Rattle.encoding.specs.Encoding.{atomCode, clauseWords, startsFrom, Arrays, arrays, hold, sizesOf, emptyIndex}
+use Rattle.encoding.specs.Slots.{rule_words}
+use Rattle.encoding.specs.Values.{no_values}
+use Rattle.encoding.specs.Encoding.{atom_code, clause_words, starts_from, Arrays, arrays, hold, sizes_of, empty_index}
 use Rattle.encoding.specs.declared.Sizes.{Sizes}
 use Rattle.machine.specs.Machine.{Machine, machine, Stands, RulesStand, Running, EndStands, EndsRun, Lengths, Loaded}
 use Rattle.machine.specs.MachineStart.{rules-stand, machine-start}
 use Rattle.machine.specs.SearchStands.{search-stands}
 use Rattle.agenda.specs.Agenda.{Users}
-use Rattle.machine.specs.FollowingLaws.{noneAwake}
-use Rattle.machine.specs.Upkeep.{upkeepOf}
+use Rattle.machine.specs.FollowingLaws.{none_awake}
+use Rattle.machine.specs.Upkeep.{upkeep_of}
 use Rattle.machine.specs.Stepping.{Stepping, start-follow}
 use Rattle.machine.specs.declared.Run.{Run}
 use Rattle.machine.specs.declared.Ended.{Ended}
 
 -- the counts before the first step
-unfoldable pub startRun : Sizes → Run
-startRun sizes = record { atoms = sizes.atoms; clauses = sizes.clauses; set = 0; decisions = 0; conflicts = 0 }
+unfoldable pub start_run : Sizes → Run
+start_run sizes = record { atoms = sizes.atoms; clauses = sizes.clauses; set = 0; decisions = 0; conflicts = 0 }
 
 -- stores change no length
 stored-length : (l ws after : List ℕ) (n : ℕ) → after ≡ sets l 0 ws → length after ≡ n → length l ≡ n
@@ -37,61 +37,61 @@ module _ (p : Problem) (sizes : Sizes) (budget : ℕ) (rules : List ℕ) (m : Ma
   abbrev lengths : Lengths rules m
   lengths = loaded.lengths
 
-  before-rules : length loaded.before.rules ≡ ruleArray
+  before-rules : length loaded.before.rules ≡ rule_array
   unfolding hold
-  before-rules = stored-length loaded.before.rules (joined ruleWords p.rules) rules ruleArray loaded.itsRules lengths.ofRules
+  before-rules = stored-length loaded.before.rules (joined rule_words p.rules) rules rule_array loaded.its_rules lengths.of_rules
 
-  before-starts : length loaded.before.starts ≡ startArray
+  before-starts : length loaded.before.starts ≡ start_array
   unfolding hold
-  before-starts = stored-length loaded.before.starts (startsFrom 0 p.clauses) m.store.starts startArray loaded.itsStarts lengths.ofStarts
+  before-starts = stored-length loaded.before.starts (starts_from 0 p.clauses) m.store.starts start_array loaded.its_starts lengths.of_starts
 
-  before-literals : length loaded.before.literals ≡ literalArray
+  before-literals : length loaded.before.literals ≡ literal_array
   unfolding hold
   before-literals =
-      stored-length loaded.before.literals (joined (clauseWords (goalAtoms p.clauses)) p.clauses) m.store.literals literalArray loaded.itsLiterals lengths.ofLiterals
+      stored-length loaded.before.literals (joined (clause_words (goal_atoms p.clauses)) p.clauses) m.store.literals literal_array loaded.its_literals lengths.of_literals
 
   before-table : length loaded.before.table ≡ 256
   unfolding hold
-  before-table = stored-length loaded.before.table (map atomCode (goalAtoms p.clauses)) m.table.codes 256 loaded.itsTable lengths.ofTable
+  before-table = stored-length loaded.before.table (map atom_code (goal_atoms p.clauses)) m.table.codes 256 loaded.its_table lengths.of_table
 
   pub loaded-rules : RulesStand p rules
-  loaded-rules = subst (RulesStand p) (sym loaded.itsRules) (rules-stand p loaded.limits loaded.before before-rules)
+  loaded-rules = subst (RulesStand p) (sym loaded.its_rules) (rules-stand p loaded.limits loaded.before before-rules)
 
-  pub loaded-stands : Stands p budget (start (task_of p)) m (startRun sizes)
-  unfolding startRun sizesOf
+  pub loaded-stands : Stands p budget (start (task_of p)) m (start_run sizes)
+  unfolding start_run sizes_of
   loaded-stands =
-      rw (loaded.counts, loaded.itsStarts, loaded.itsLiterals, loaded.itsTable, loaded.itsIndex)
+      rw (loaded.counts, loaded.its_starts, loaded.its_literals, loaded.its_table, loaded.its_index)
       (machine-start p loaded.limits budget loaded.before loaded.empty before-starts before-literals before-table
       m.store.heads m.store.numbers m.trail.values m.trail.words m.trail.marks
-      lengths.ofHeads lengths.ofNumbers loaded.unset lengths.ofTrail lengths.ofMarks)
+      lengths.of_heads lengths.of_numbers loaded.unset lengths.of_trail lengths.of_marks)
 
-  abbrev pub loaded-running : budget < 2 ^ 32 → Running budget rules sizes m (startRun sizes)
-  loaded-running small = record { problem = p; state = start (task_of p); rulesStand = loaded-rules; counts = loaded.counts; stands = loaded-stands; small = small }
+  abbrev pub loaded-running : budget < 2 ^ 32 → Running budget rules sizes m (start_run sizes)
+  loaded-running small = record { problem = p; state = start (task_of p); rules_stand = loaded-rules; counts = loaded.counts; stands = loaded-stands; small = small }
 
   -- a step can be made, with masks that hold nothing while all rules sleep
   pub loaded-stepping : budget < 2 ^ 32 → (users : List ℕ) → Users rules sizes.rules users
-      → Stepping budget rules users sizes m (startRun sizes) (upkeepOf (replicate 104544 0) (replicate 3072 0) (replicate 3072 0) (replicate 1 0) noneAwake (replicate 128 0))
+      → Stepping budget rules users sizes m (start_run sizes) (upkeep_of (replicate 104544 0) (replicate 3072 0) (replicate 3072 0) (replicate 1 0) none_awake (replicate 128 0))
   loaded-stepping small users its =
       record {
         running = loaded-running small;
         follow = start-follow p loaded.limits;
-        itsUsers = its;
+        its_users = its;
       }
 
   -- where the loop came to an end, the search did
-  pub loaded-ends : (r : Ended) (last : Machine) → EndsRun budget rules sizes m (startRun sizes) r last → EndStands p budget (search p budget) r last
+  pub loaded-ends : (r : Ended) (last : Machine) → EndsRun budget rules sizes m (start_run sizes) r last → EndStands p budget (search p budget) r last
   loaded-ends r last ends = search-stands p budget loaded.limits r last (ends p (start (task_of p)) loaded-rules loaded.counts loaded-stands)
 
 -- the machine once a problem stands in its arrays
-abbrev pub heldMachine : Problem → Arrays → List ℕ → List ℕ → List ℕ → List ℕ → Machine
-heldMachine p before heads numbers trail marks =
+abbrev pub held_machine : Problem → Arrays → List ℕ → List ℕ → List ℕ → List ℕ → Machine
+held_machine p before heads numbers trail marks =
     let held = hold p before in
-    machine held.starts held.literals heads numbers held.table held.index noValues trail marks
+    machine held.starts held.literals heads numbers held.table held.index no_values trail marks
 
 -- every sheet that is accepted is read into arrays that can be searched
-pub accepted-loaded : (sheet : List ℕ) (p : Problem) → read sheet ≡ accepted p → (before : Arrays) → before.index ≡ emptyIndex
-    → (heads numbers trail marks : List ℕ) → Lengths (hold p before).rules (heldMachine p before heads numbers trail marks)
-    → Loaded p (sizesOf p) (hold p before).rules (heldMachine p before heads numbers trail marks)
+pub accepted-loaded : (sheet : List ℕ) (p : Problem) → read sheet ≡ accepted p → (before : Arrays) → before.index ≡ empty_index
+    → (heads numbers trail marks : List ℕ) → Lengths (hold p before).rules (held_machine p before heads numbers trail marks)
+    → Loaded p (sizes_of p) (hold p before).rules (held_machine p before heads numbers trail marks)
 accepted-loaded sheet p read_as before empty heads numbers trail marks lengths =
     record {
       lengths = lengths;
@@ -99,11 +99,11 @@ accepted-loaded sheet p read_as before empty heads numbers trail marks lengths =
       before = before;
       empty = empty;
       counts = refl;
-      itsRules = refl;
-      itsStarts = refl;
-      itsLiterals = refl;
-      itsTable = refl;
-      itsIndex = refl;
+      its_rules = refl;
+      its_starts = refl;
+      its_literals = refl;
+      its_table = refl;
+      its_index = refl;
       unset = refl;
     }
 
@@ -114,29 +114,29 @@ zeros n = replicate n 0
 length-zeros : (n : ℕ) → length (zeros n) ≡ n
 length-zeros n = length-replicate {A = ℕ} n 0
 
-abbrev zeroArrays : Arrays
-zeroArrays = arrays (zeros 16) (zeros ruleArray) (zeros startArray) (zeros literalArray) (zeros 256) emptyIndex
+abbrev zero_arrays : Arrays
+zero_arrays = arrays (zeros 16) (zeros rule_array) (zeros start_array) (zeros literal_array) (zeros 256) empty_index
 
-abbrev firstMachine : Problem → Machine
-firstMachine p = heldMachine p zeroArrays (zeros 512) (zeros 512) (zeros 256) (zeros 256)
+abbrev first_machine : Problem → Machine
+first_machine p = held_machine p zero_arrays (zeros 512) (zeros 512) (zeros 256) (zeros 256)
 
-first-lengths : (p : Problem) → Lengths (hold p zeroArrays).rules (firstMachine p)
+first-lengths : (p : Problem) → Lengths (hold p zero_arrays).rules (first_machine p)
 unfolding hold
 first-lengths p =
     record {
-      ofRules = written ruleArray (joined ruleWords p.rules);
-      ofStarts = written startArray (startsFrom 0 p.clauses);
-      ofLiterals = written literalArray (joined (clauseWords (goalAtoms p.clauses)) p.clauses);
-      ofHeads = length-zeros 512;
-      ofNumbers = length-zeros 512;
-      ofTable = written 256 (map atomCode (goalAtoms p.clauses));
-      ofTrail = length-zeros 256;
-      ofMarks = length-zeros 256;
+      of_rules = written rule_array (joined rule_words p.rules);
+      of_starts = written start_array (starts_from 0 p.clauses);
+      of_literals = written literal_array (joined (clause_words (goal_atoms p.clauses)) p.clauses);
+      of_heads = length-zeros 512;
+      of_numbers = length-zeros 512;
+      of_table = written 256 (map atom_code (goal_atoms p.clauses));
+      of_trail = length-zeros 256;
+      of_marks = length-zeros 256;
     }
   where
     written : (n : ℕ) (ws : List ℕ) → length (sets (zeros n) 0 ws) ≡ n
     written n ws = length-sets (zeros n) 0 ws ∙ length-zeros n
 
-pub accepted-arrays : (sheet : List ℕ) (p : Problem) → read sheet ≡ accepted p → (rules : List ℕ) × (m : Machine) × Loaded p (sizesOf p) rules m
+pub accepted-arrays : (sheet : List ℕ) (p : Problem) → read sheet ≡ accepted p → (rules : List ℕ) × (m : Machine) × Loaded p (sizes_of p) rules m
 accepted-arrays sheet p read_as =
-    ((hold p zeroArrays).rules, firstMachine p, accepted-loaded sheet p read_as zeroArrays refl (zeros 512) (zeros 512) (zeros 256) (zeros 256) (first-lengths p))
+    ((hold p zero_arrays).rules, first_machine p, accepted-loaded sheet p read_as zero_arrays refl (zeros 512) (zeros 512) (zeros 256) (zeros 256) (first-lengths p))

@@ -1,7 +1,7 @@
 -- The machine: the search over arrays, and how it stands for a state of the definitions' search. Assumes nothing.
 use Rattle.std.specs.Prelude.{ℕ, suc, ◌*◌, ◌<◌, ◌^◌, ◌≡◌, List, length, take}
 use denote.Triple.Both.{Both}
-use Rattle.encoding.specs.Lengths.{literalArray, ruleArray, startArray}
+use Rattle.encoding.specs.Lengths.{literal_array, rule_array, start_array}
 use Rattle.definitions.specs.Lists.{joined}
 use Rattle.definitions.specs.Words.{Problem}
 use Rattle.definitions.specs.Instances.{task_of}
@@ -11,19 +11,19 @@ use Rattle.theory.specs.Limits.{Searchable}
 use Rattle.theory.specs.Counts.{Counted, CountsTell}
 use Rattle.theory.specs.Invariants.{Sound}
 use Rattle.theory.specs.Ends.{measure}
-use Rattle.encoding.specs.Encoding.{Arrays, emptyIndex, sizesOf, hold}
+use Rattle.encoding.specs.Encoding.{Arrays, empty_index, sizes_of, hold}
 use Rattle.encoding.specs.declared.Sizes.{Sizes}
-use Rattle.encoding.specs.Lent.{Array, Lent, ValueArray, LentValues, ClauseStore, clauseStore, AtomTable, atomTable, TrailArrays, trailArrays}
-use Rattle.encoding.specs.Slots.{ruleWords}
-use Rattle.encoding.specs.Values.{Values, noValues}
+use Rattle.encoding.specs.Lent.{Array, Lent, ValueArray, LentValues, ClauseStore, clause_store, AtomTable, atom_table, TrailArrays, trail_arrays}
+use Rattle.encoding.specs.Slots.{rule_words}
+use Rattle.encoding.specs.Values.{Values, no_values}
 use Rattle.units.specs.TrailWords.{TrailStands}
 use Rattle.units.specs.TrailLaws.{Room}
-use Rattle.units.specs.Units.{actFrom}
+use Rattle.units.specs.Units.{act_from}
 use Rattle.units.specs.declared.UnitAct.{UnitAct}
-use Rattle.walk.specs.Walk.{walkFrom}
+use Rattle.walk.specs.Walk.{walk_from}
 use Rattle.walk.specs.declared.Found.{Found}
-use Rattle.log.specs.Logging.{Log}
-use Rattle.log.specs.LogHolds.{LogHolds}
+use Rattle.clause_log.specs.Logging.{Log}
+use Rattle.clause_log.specs.LogHolds.{LogHolds}
 use Rattle.machine.specs.declared.Run.{Run}
 use Rattle.machine.specs.declared.Ended.{Ended}
 use Rattle.machine.specs.declared.Next.{Next}
@@ -37,37 +37,37 @@ pub record Machine : Type 0 where
 
 abbrev pub machine : List ℕ → List ℕ → List ℕ → List ℕ → List ℕ → List ℕ → Values → List ℕ → List ℕ → Machine
 machine starts literals heads numbers table index values trail marks =
-    record { store = clauseStore starts literals heads numbers; table = atomTable table index; trail = trailArrays values trail marks }
+    record { store = clause_store starts literals heads numbers; table = atom_table table index; trail = trail_arrays values trail marks }
 
 -- lent, as a `requires` names its arrays, and at both moments
-abbrev pub machineNow : Array → Array → Array → Array → Array → Array → ValueArray → Array → Array → Machine
-machineNow starts literals heads numbers table index values trail marks =
+abbrev pub machine_now : Array → Array → Array → Array → Array → Array → ValueArray → Array → Array → Machine
+machine_now starts literals heads numbers table index values trail marks =
     machine starts.now literals.now heads.now numbers.now table.now index.now values.now trail.now marks.now
 
-abbrev pub lentMachine : Lent → Lent → Lent → Lent → Lent → Lent → LentValues → Lent → Lent → Both Machine Machine
-lentMachine starts literals heads numbers table index values trail marks =
+abbrev pub lent_machine : Lent → Lent → Lent → Lent → Lent → Lent → LentValues → Lent → Lent → Both Machine Machine
+lent_machine starts literals heads numbers table index values trail marks =
     record {
-      entry = machineNow starts.entry literals.entry heads.entry numbers.entry table.entry index.entry values.entry trail.entry marks.entry;
-      exit = machineNow starts.exit literals.exit heads.exit numbers.exit table.exit index.exit values.exit trail.exit marks.exit;
+      entry = machine_now starts.entry literals.entry heads.entry numbers.entry table.entry index.entry values.entry trail.entry marks.entry;
+      exit = machine_now starts.exit literals.exit heads.exit numbers.exit table.exit index.exit values.exit trail.exit marks.exit;
     }
 
 -- what logging changes of it, with its counts
-abbrev pub logIn : Machine → Run → Log
-logIn m run = record { atoms = run.atoms; clauses = run.clauses; store = m.store; table = m.table }
+abbrev pub log_in : Machine → Run → Log
+log_in m run = record { atoms = run.atoms; clauses = run.clauses; store = m.store; table = m.table }
 
 -- what step A and step B find
-abbrev pub actOf : Sizes → Machine → Run → UnitAct
-actOf sizes m run = actFrom m.trail.values m.store.starts m.store.literals m.store.heads sizes.clauses sizes.atoms 0 run.clauses
+abbrev pub act_of : Sizes → Machine → Run → UnitAct
+act_of sizes m run = act_from m.trail.values m.store.starts m.store.literals m.store.heads sizes.clauses sizes.atoms 0 run.clauses
 
 abbrev pub walk_of : List ℕ → Sizes → Machine → Found
-walk_of rules sizes m = walkFrom m.trail.values m.table.index rules sizes.constants 0 sizes.rules
+walk_of rules sizes m = walk_from m.trail.values m.table.index rules sizes.constants 0 sizes.rules
 
 -- the machine stands for a state: the same table, log, trail and counts, and what holds of every state of the search.
 -- What the counts tell is a parameter, since after the last conflict of UNSAT they tell something else
 pub record StandsWith (Counts : Type 0) (p : Problem) (s : State) (m : Machine) (run : Run) : Type 0 where
   pub sound : Sound (task_of p) s
   pub counted : Counts
-  pub log : LogHolds p s (logIn m run)
+  pub log : LogHolds p s (log_in m run)
   pub trail : TrailStands s.table s.trail m.trail.values m.trail.words m.trail.marks
   pub room : Room s.table m.trail.values m.trail.words m.trail.marks
   pub set : run.set ≡ length s.trail
@@ -85,7 +85,7 @@ StandsAtEnd p budget v s m run = StandsWith (CountsTell budget v s) p s m run
 -- the rules stand in their array
 pub record RulesStand (p : Problem) (rules : List ℕ) : Type 0 where
   pub limits : Searchable p
-  pub words : take (22 * length p.rules) rules ≡ joined ruleWords p.rules
+  pub words : take (22 * length p.rules) rules ≡ joined rule_words p.rules
 
 -- a step of the machine stands for a step of the search
 abbrev pub NextStands : Problem → ℕ → Outcome → Next → Machine → Type 0
@@ -96,8 +96,8 @@ NextStands p budget (done v s) r m = (run : Run) × (r ≡ Done v run) × Stands
 pub record Running (budget : ℕ) (rules : List ℕ) (sizes : Sizes) (m : Machine) (run : Run) : Type 0 where
   pub problem : Problem
   pub state : State
-  pub rulesStand : RulesStand problem rules
-  pub counts : sizes ≡ sizesOf problem
+  pub rules_stand : RulesStand problem rules
+  pub counts : sizes ≡ sizes_of problem
   pub stands : Stands problem budget state m run
   pub small : budget < 2 ^ 32
 
@@ -109,7 +109,7 @@ EndStands p budget (done v s) r m = (r.verdict ≡ v) × StandsAtEnd p budget v 
 -- for every problem and state that the machine stood for, its run came to what theirs does
 abbrev pub EndsRun : ℕ → List ℕ → Sizes → Machine → Run → Ended → Machine → Type 0
 EndsRun budget rules sizes m start r last =
-    (p : Problem) (s : State) → RulesStand p rules → sizes ≡ sizesOf p → Stands p budget s m start
+    (p : Problem) (s : State) → RulesStand p rules → sizes ≡ sizes_of p → Stands p budget s m start
     → EndStands p budget (run (task_of p) budget (suc (measure budget s)) s) r last
 
 -- what a function that ends a run answers and leaves
@@ -118,28 +118,28 @@ Ends ends start r m = ends m.entry start r m.exit
 
 -- the arrays' lengths
 pub record Lengths (rules : List ℕ) (m : Machine) : Type 0 where
-  pub ofRules : length rules ≡ ruleArray
-  pub ofStarts : length m.store.starts ≡ startArray
-  pub ofLiterals : length m.store.literals ≡ literalArray
-  pub ofHeads : length m.store.heads ≡ 512
-  pub ofNumbers : length m.store.numbers ≡ 512
-  pub ofTable : length m.table.codes ≡ 256
-  pub ofTrail : length m.trail.words ≡ 256
-  pub ofMarks : length m.trail.marks ≡ 256
+  pub of_rules : length rules ≡ rule_array
+  pub of_starts : length m.store.starts ≡ start_array
+  pub of_literals : length m.store.literals ≡ literal_array
+  pub of_heads : length m.store.heads ≡ 512
+  pub of_numbers : length m.store.numbers ≡ 512
+  pub of_table : length m.table.codes ≡ 256
+  pub of_trail : length m.trail.words ≡ 256
+  pub of_marks : length m.trail.marks ≡ 256
 
 -- a problem stands in the arrays as the reader of a sheet leaves it, and nothing is set
 pub record Loaded (p : Problem) (sizes : Sizes) (rules : List ℕ) (m : Machine) : Type 0 where
   pub lengths : Lengths rules m
   pub limits : Searchable p
   pub before : Arrays
-  pub empty : before.index ≡ emptyIndex
-  pub counts : sizes ≡ sizesOf p
-  pub itsRules : rules ≡ (hold p before).rules
-  pub itsStarts : m.store.starts ≡ (hold p before).starts
-  pub itsLiterals : m.store.literals ≡ (hold p before).literals
-  pub itsTable : m.table.codes ≡ (hold p before).table
-  pub itsIndex : m.table.index ≡ (hold p before).index
-  pub unset : m.trail.values ≡ noValues
+  pub empty : before.index ≡ empty_index
+  pub counts : sizes ≡ sizes_of p
+  pub its_rules : rules ≡ (hold p before).rules
+  pub its_starts : m.store.starts ≡ (hold p before).starts
+  pub its_literals : m.store.literals ≡ (hold p before).literals
+  pub its_table : m.table.codes ≡ (hold p before).table
+  pub its_index : m.table.index ≡ (hold p before).index
+  pub unset : m.trail.values ≡ no_values
 
 -- for every problem that stood in the arrays, they come to what its search does
 abbrev pub EndsSearch : ℕ → List ℕ → Sizes → Ended → Both Machine Machine → Type 0

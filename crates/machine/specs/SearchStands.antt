@@ -4,7 +4,7 @@ use Rattle.std.specs.Prelude.{ℕ, suc, ◌<◌, ◌≡◌}
 use Rattle.std.proofs.Common.{subst, arith}
 use Rattle.definitions.specs.Words.{Problem}
 use Rattle.definitions.specs.Instances.{Task, task_of}
-use Rattle.definitions.specs.Search.{State, start, Outcome, more, done, step, run, enough, searchTask, search}
+use Rattle.definitions.specs.Search.{State, start, Outcome, more, done, step, run, enough, search_task, search}
 use Rattle.definitions.specs.declared.Verdict.{Verdict}
 use Rattle.theory.specs.Limits.{Searchable}
 use Rattle.theory.specs.Steps.{Falls, kind}
@@ -34,7 +34,7 @@ module _ (k : Task) (budget : ℕ) (s : State) where
   run-done n v s' e = rw (e, run)
 
 pub search-run : (p : Problem) (budget : ℕ) → Searchable p → run (task_of p) budget (suc (measure budget (start (task_of p)))) (start (task_of p)) ≡ search p budget
-unfolding search searchTask task_of
+unfolding search search_task task_of
 search-run p budget limits =
     let k = task_of p in
     run-enough k budget (suc (measure budget (start k))) (enough budget) (start k) (start_fits k (omega (arith, limits.goals))) (omega arith) (start-measure k budget)

@@ -6,22 +6,22 @@ use Rattle.std.proofs.Common.{sym, ◌∙◌, arith}
 use Rattle.std.proofs.Math.ListN.{length, get_or}
 use Rattle.std.proofs.Math.Seq.{length-sets}
 use Rattle.definitions.specs.Lists.{joined}
-use Rattle.definitions.specs.Words.{Problem, goalAtoms}
+use Rattle.definitions.specs.Words.{Problem, goal_atoms}
 use Rattle.definitions.specs.Questions.{Reading, refused, accepted, read}
 use Rattle.definitions.specs.Search.{search}
 use Rattle.definitions.specs.declared.Refusal.{Refusal}
 use Rattle.theory.specs.Tests.{apart}
 use Rattle.theory.specs.Limits.{accepted-limits}
-use Rattle.encoding.specs.Slots.{ruleWords}
-use Rattle.encoding.specs.Values.{Values, noValues}
-use Rattle.encoding.specs.Encoding.{atomCode, clauseWords, startsFrom, Arrays, emptyIndex, sizesOf, hold}
+use Rattle.encoding.specs.Slots.{rule_words}
+use Rattle.encoding.specs.Values.{Values, no_values}
+use Rattle.encoding.specs.Encoding.{atom_code, clause_words, starts_from, Arrays, empty_index, sizes_of, hold}
 use Rattle.encoding.specs.declared.Sizes.{Sizes}
 use Rattle.sheet.specs.LineHolds.{SheetRead}
 use Rattle.sheet.specs.declared.Read.{Read}
 use Rattle.sheet.specs.declared.Read.TheVariants as Read
-use Rattle.log.specs.StoreLaws.{sets-start-at}
+use Rattle.clause_log.specs.StoreLaws.{sets-start-at}
 use Rattle.machine.specs.Machine.{Machine, machine, EndStands, Lengths, Loaded}
-use Rattle.machine.specs.Loading.{heldMachine, accepted-loaded}
+use Rattle.machine.specs.Loading.{held_machine, accepted-loaded}
 use Rattle.machine.specs.Finished.{AtEnd, at-end}
 use Rattle.machine.specs.declared.Ended.{Ended}
 use Rattle.pipe.specs.Reaching.{ReachedAs}
@@ -36,13 +36,13 @@ module _ (sheet : List ℕ) (r : Read) (before after : Arrays) (left : SheetRead
     where
       from : (reading : Reading) → SheetRead reading r before after → ReachedAs reading budget (Reached.Refused f) arities starts literals numbers table values
       from (refused q n) h = cc
-      from (accepted p) h = apart (let z : Read.Accepted (sizesOf p) ≡ Read.Refused f = sym h.0 ∙ e in cc)
+      from (accepted p) h = apart (let z : Read.Accepted (sizes_of p) ≡ Read.Refused f = sym h.0 ∙ e in cc)
 
   module _ (sizes : Sizes) (e : r ≡ Read.Accepted sizes) where
     -- the arrays hold the problem of an accepted sheet
     record Held (p : Problem) : Type 0 where
       reads : read sheet ≡ accepted p
-      counts : sizes ≡ sizesOf p
+      counts : sizes ≡ sizes_of p
       holds : after ≡ hold p before
 
     by-problem : {C : Type 0} → ((p : Problem) → Held p → C) → C
@@ -50,27 +50,27 @@ module _ (sheet : List ℕ) (r : Read) (before after : Arrays) (left : SheetRead
       where
         from : (reading : Reading) → read sheet ≡ reading → SheetRead reading r before after → C
         from (refused q n) d h = apart (let z : Read.Refused (record { number = q; line = n }) ≡ Read.Accepted sizes = sym h ∙ e in cc)
-        from (accepted p) d h = let same : Read.Accepted sizes ≡ Read.Accepted (sizesOf p) = sym e ∙ h.0 in f p (record { reads = d; counts = cc; holds = h.1 })
+        from (accepted p) d h = let same : Read.Accepted sizes ≡ Read.Accepted (sizes_of p) = sym e ∙ h.0 in f p (record { reads = d; counts = cc; holds = h.1 })
 
-    module _ (empty : before.index ≡ emptyIndex) (arities : length before.arities ≡ 16) (heads numbers : List ℕ) (values : Values) (trail marks : List ℕ)
-        (lengths : Lengths before.rules (machine before.starts before.literals heads numbers before.table before.index values trail marks)) (unset : values ≡ noValues) where
+    module _ (empty : before.index ≡ empty_index) (arities : length before.arities ≡ 16) (heads numbers : List ℕ) (values : Values) (trail marks : List ℕ)
+        (lengths : Lengths before.rules (machine before.starts before.literals heads numbers before.table before.index values trail marks)) (unset : values ≡ no_values) where
       -- the machine that is searched
       abbrev loaded : Machine
       loaded = machine after.starts after.literals heads numbers after.table after.index values trail marks
 
       -- stores change no length
-      held-lengths : (p : Problem) → Lengths (hold p before).rules (heldMachine p before heads numbers trail marks)
+      held-lengths : (p : Problem) → Lengths (hold p before).rules (held_machine p before heads numbers trail marks)
       unfolding hold
       held-lengths p =
           record {
-            ofRules = length-sets before.rules 0 (joined ruleWords p.rules) ∙ lengths.ofRules;
-            ofStarts = length-sets before.starts 0 (startsFrom 0 p.clauses) ∙ lengths.ofStarts;
-            ofLiterals = length-sets before.literals 0 (joined (clauseWords (goalAtoms p.clauses)) p.clauses) ∙ lengths.ofLiterals;
-            ofHeads = lengths.ofHeads;
-            ofNumbers = lengths.ofNumbers;
-            ofTable = length-sets before.table 0 (map atomCode (goalAtoms p.clauses)) ∙ lengths.ofTable;
-            ofTrail = lengths.ofTrail;
-            ofMarks = lengths.ofMarks;
+            of_rules = length-sets before.rules 0 (joined rule_words p.rules) ∙ lengths.of_rules;
+            of_starts = length-sets before.starts 0 (starts_from 0 p.clauses) ∙ lengths.of_starts;
+            of_literals = length-sets before.literals 0 (joined (clause_words (goal_atoms p.clauses)) p.clauses) ∙ lengths.of_literals;
+            of_heads = lengths.of_heads;
+            of_numbers = lengths.of_numbers;
+            of_table = length-sets before.table 0 (map atom_code (goal_atoms p.clauses)) ∙ lengths.of_table;
+            of_trail = lengths.of_trail;
+            of_marks = lengths.of_marks;
           }
 
       held-loaded : (p : Problem) → Held p → Loaded p sizes after.rules loaded
@@ -86,7 +86,7 @@ module _ (sheet : List ℕ) (r : Read) (before after : Arrays) (left : SheetRead
           → ((p : Problem) → Loaded p sizes after.rules loaded
           → EndStands p budget (search p budget) ended m)
           → ReachedAs (read sheet) budget (Reached.Ended sizes.clauses ended) after.arities m.store.starts m.store.literals m.store.numbers m.table.codes m.trail.values
-      unfolding sizesOf hold
+      unfolding sizes_of hold
       accepted-reached budget ended m ends =
           by-problem (λ p held.
           let its = held-loaded p held in

@@ -1,6 +1,6 @@
 // A sheet read and searched into arrays that are lent. What a caller makes of the final arrays is its own.
 ghost use Rattle.std.specs.Prelude.{◌≡◌};
-ghost use Rattle.encoding.specs.Values.{noValues};
+ghost use Rattle.encoding.specs.Values.{no_values};
 ghost use Rattle.definitions.specs.Questions.{read};
 ghost use Rattle.pipe.specs.Reaching.{ReachedAs};
 
@@ -28,7 +28,7 @@ pub fn search_sheet(
     table: &mut [u32; ATOMS],
     values: &mut Values,
 ) -> Reached
-    requires { values.old ≡ noValues }
+    requires { values.old ≡ no_values }
     ensures { ReachedAs (read sheet.now) budget result
         arities.new starts.new literals.new numbers.new table.new values.new }
 {

@@ -9,25 +9,25 @@ use lib.ListN.{length, get_or, set, take, drop, length-set, drop_of_length-le}
 use lib.Seq.{drop-cons}
 use borrow.Author.Tests.{ne_eqb}
 use Rattle.definitions.specs.Sheet.{Number, number, nothing, fault, decimal}
-use Rattle.definitions.specs.Questions.{Asked, no, yes, ◌>>=◌, inFront, columns}
+use Rattle.definitions.specs.Questions.{Asked, no, yes, ◌>>=◌, in_front, columns}
 use Rattle.encoding.specs.Signs.{word_of, numbers}
-use Rattle.rows.specs.Rows.{lineLength}
-use Rattle.encoding.specs.Signs.{number_word}
+use Rattle.rows.specs.Rows.{line_length}
+use Rattle.encoding.specs.Signs.{number_word_lem}
 use Rattle.rows.specs.RowLaws.{numbers-set}
 
 -- ── the bytes of a line ──
 
 module _ (s : List ℕ) (at : ℕ) where
-  pub line-here : at < length s → get_or s at 0 ≡ 10 → lineLength (drop at s) ≡ 0
-  unfolding lineLength
+  pub line-here : at < length s → get_or s at 0 ≡ 10 → line_length (drop at s) ≡ 0
+  unfolding line_length
   line-here h e = cc (drop-cons s at 0 h)
 
-  pub line_on : at < length s → (get_or s at 0 ≡ 10 → ⊥) → lineLength (drop at s) ≡ suc (lineLength (drop (at + 1) s))
-  unfolding lineLength
+  pub line_on : at < length s → (get_or s at 0 ≡ 10 → ⊥) → line_length (drop at s) ≡ suc (line_length (drop (at + 1) s))
+  unfolding line_length
   line_on h n = cc (add-one at, drop-cons s at 0 h, ne_eqb (get_or s at 0) 10 n)
 
-  pub line-over : length s ≤ at → lineLength (drop at s) ≡ 0
-  unfolding lineLength
+  pub line-over : length s ≤ at → line_length (drop at s) ≡ 0
+  unfolding line_length
   line-over h = rw (drop_of_length-le s h)
 
 -- ── the columns of a line ──
@@ -38,16 +38,16 @@ behind ns (no q) = no q
 behind ns (yes ms) = yes (ns ++ ms)
 
 -- what a line's columns come to, with numbers in place of those before a column
-pub rowFrom : List ℕ → ℕ → ℕ → ℕ → List Number → Asked (List Number)
-rowFrom s from count i ns = behind ns (columns (take (4 * (count - i)) (drop (from + 4 * i) s)))
+pub row_from : List ℕ → ℕ → ℕ → ℕ → List Number → Asked (List Number)
+row_from s from count i ns = behind ns (columns (take (4 * (count - i)) (drop (from + 4 * i) s)))
 
 behind-behind : (ns ms : List Number) (rest : Asked (List Number)) → behind ns (behind ms rest) ≡ behind (ns ++ ms) rest
 unfolding behind
 behind-behind ns ms (no q) = refl
 behind-behind ns ms (yes ks) = rw (append_assoc ns ms ks)
 
-number_behind : (n : Number) (rest : Asked (List Number)) → inFront (number n) rest ≡ behind (n ∷ []) rest
-unfolding behind inFront ◌>>=◌
+number_behind : (n : Number) (rest : Asked (List Number)) → in_front (number n) rest ≡ behind (n ∷ []) rest
+unfolding behind in_front ◌>>=◌
 number_behind n (no q) = refl
 number_behind n (yes ns) = refl
 
@@ -57,7 +57,7 @@ behind-none (no q) = refl
 behind-none (yes ns) = refl
 
 four-more : (s : List ℕ) (at k : ℕ) → at + 4 ≤ length s
-    → columns (take (4 * suc k) (drop at s)) ≡ inFront (decimal (take 4 (drop at s))) (columns (take (4 * k) (drop (at + 4) s)))
+    → columns (take (4 * suc k) (drop at s)) ≡ in_front (decimal (take 4 (drop at s))) (columns (take (4 * k) (drop (at + 4) s)))
 unfolding columns
 four-more s at k h =
     let e : 4 * suc k ≡ suc (suc (suc (suc (4 * k)))) = omega arith in
@@ -69,17 +69,17 @@ pub record RowUpTo (s : List ℕ) (from count i filled : ℕ) (row : List ℕ) :
   pub inside : i ≤ count
   pub counted : filled ≤ i
   pub wide : length row ≡ 34
-  pub rest : rowFrom s from count i (numbers filled row) ≡ columns (take (4 * count) (drop from s))
+  pub rest : row_from s from count i (numbers filled row) ≡ columns (take (4 * count) (drop from s))
 
 pub row-start : (s : List ℕ) (from count : ℕ) (row : List ℕ) → length row ≡ 34 → RowUpTo s from count 0 0 row
-unfolding rowFrom numbers
+unfolding row_from numbers
 row-start s from count row wide =
     let e : count - 0 ≡ count = omega arith in
     let f : from + 4 * 0 ≡ from = omega arith in
     record { inside = omega arith; counted = omega arith; wide = wide; rest = rw (e, f) (behind-none _) }
 
 pub row-end : {s : List ℕ} {from count i filled : ℕ} {row : List ℕ} → RowUpTo s from count i filled row → count ≤ i → columns (take (4 * count) (drop from s)) ≡ yes (numbers filled row)
-unfolding rowFrom behind columns
+unfolding row_from behind columns
 row-end {s} {from} {count} {i} {filled} {row} up_to h =
     let f : 4 * (count - i) ≡ 0 = omega arith in
     sym up_to.rest ∙ rw f (rw (append-nil (numbers filled row)))
@@ -87,7 +87,7 @@ row-end {s} {from} {count} {i} {filled} {row} up_to h =
 module _ (s : List ℕ) (from count i : ℕ) (fits : from + 4 * count ≤ length s) (h : i < count) where
   row_cons :
       columns (take (4 * (count - i)) (drop (from + 4 * i) s))
-      ≡ inFront (decimal (take 4 (drop (from + 4 * i) s))) (columns (take (4 * (count - (i + 1))) (drop (from + 4 * (i + 1)) s)))
+      ≡ in_front (decimal (take 4 (drop (from + 4 * i) s))) (columns (take (4 * (count - (i + 1))) (drop (from + 4 * (i + 1)) s)))
   row_cons =
       let e : count - i ≡ suc (count - (i + 1)) = omega arith in
       let f : from + 4 * (i + 1) ≡ from + 4 * i + 4 = omega arith in
@@ -98,7 +98,7 @@ module _ (s : List ℕ) (from count i : ℕ) (fits : from + 4 * count ≤ length
     pub row_number : count ≤ 34 → (negative : Bool) (size w : ℕ) → w ≡ word_of negative size
         → decimal (take 4 (drop (from + 4 * i) s)) ≡ number (record { negative = negative; size = size })
         → RowUpTo s from count (i + 1) (filled + 1) (set row filled w)
-    unfolding rowFrom
+    unfolding row_from
     row_number few negative size w same e =
         record {
           inside = omega arith;
@@ -110,13 +110,13 @@ module _ (s : List ℕ) (from count i : ℕ) (fits : from + 4 * count ≤ length
         below : filled < length row
         below = omega (arith, up_to.counted, up_to.wide)
 
-        turn : rowFrom s from count (i + 1) (numbers (filled + 1) (set row filled (word_of negative size))) ≡ rowFrom s from count i (numbers filled row)
+        turn : row_from s from count (i + 1) (numbers (filled + 1) (set row filled (word_of negative size))) ≡ row_from s from count i (numbers filled row)
         turn =
-            rw (row_cons, e, number_behind (record { negative = negative; size = size }) _, behind-behind, ← number_word negative size, ← numbers-set row filled (word_of negative size) below, add-one filled)
+            rw (row_cons, e, number_behind (record { negative = negative; size = size }) _, behind-behind, ← number_word_lem negative size, ← numbers-set row filled (word_of negative size) below, add-one filled)
 
     -- a blank column is passed over,
     pub row-blank : decimal (take 4 (drop (from + 4 * i) s)) ≡ nothing → RowUpTo s from count (i + 1) filled row
-    unfolding rowFrom inFront
+    unfolding row_from in_front
     row-blank e =
         record {
           inside = omega arith;
@@ -125,10 +125,10 @@ module _ (s : List ℕ) (from count i : ℕ) (fits : from + 4 * count ≤ length
           rest = turn ∙ up_to.rest;
         }
       where
-        turn : rowFrom s from count (i + 1) (numbers filled row) ≡ rowFrom s from count i (numbers filled row)
+        turn : row_from s from count (i + 1) (numbers filled row) ≡ row_from s from count i (numbers filled row)
         turn = rw (row_cons, e)
 
     -- and a fault ends the line
     pub row-fault : decimal (take 4 (drop (from + 4 * i) s)) ≡ fault → columns (take (4 * count) (drop from s)) ≡ no 6
-    unfolding rowFrom behind inFront
+    unfolding row_from behind in_front
     row-fault e = sym up_to.rest ∙ rw (row_cons, e)

@@ -10,7 +10,7 @@ use borrow.Author.Tests.{eq-eqb, ne_eqb, le-leb, lt-leb}
 use Rattle.definitions.specs.Sheet.{Number}
 use Rattle.definitions.specs.Questions.{within, rank}
 use Rattle.encoding.specs.Signs.{number_of, numbers}
-use Rattle.rows.specs.Rows.{kindHere, row_kind}
+use Rattle.rows.specs.Rows.{kind_here, row_kind}
 
 module _ (low high w : ℕ) where
   pub negative-out : w % 2 ≡ 1 → false ≡ within low high (number_of w)
@@ -27,37 +27,37 @@ module _ (low high w : ℕ) where
 
 -- on the first line
 module _ {before : ℕ} (n : Number) (h : before ≡ 0) where
-  pub first_kind : within 1 1 n ≡ true → 1 ≡ kindHere before n
-  unfolding kindHere
+  pub first_kind : within 1 1 n ≡ true → 1 ≡ kind_here before n
+  unfolding kind_here
   first_kind t = cc
 
-  pub no-first-kind : within 1 1 n ≡ false → 0 ≡ kindHere before n
-  unfolding kindHere
+  pub no-first-kind : within 1 1 n ≡ false → 0 ≡ kind_here before n
+  unfolding kind_here
   no-first-kind t = cc
 
 -- on a later line
 kind-later :
     (before : ℕ) (n : Number) → (before ≡ 0 → ⊥)
-    → kindHere before n ≡ elim (within 2 8 n && (leb (rank n.size) 4 && leb (rank before) (rank n.size))) [ true ↦ n.size | false ↦ 0 ]
-unfolding kindHere
+    → kind_here before n ≡ elim (within 2 8 n && (leb (rank n.size) 4 && leb (rank before) (rank n.size))) [ true ↦ n.size | false ↦ 0 ]
+unfolding kind_here
 kind-later zero n h = absurd (h refl)
 kind-later (suc before) n h = refl
 
 module _ (before w : ℕ) (h : before ≡ 0 → ⊥) where
-  pub no-later-kind : within 2 8 (number_of w) ≡ false → 0 ≡ kindHere before (number_of w)
+  pub no-later-kind : within 2 8 (number_of w) ≡ false → 0 ≡ kind_here before (number_of w)
   no-later-kind t = cc (kind-later before (number_of w) h)
 
   -- the ranks of the kind here and of the one before
   module _ {here least : ℕ} (t : within 2 8 (number_of w) ≡ true) (a : here ≡ rank (w / 2)) (b : least ≡ rank before) where
-    pub rank-over : 4 < here → 0 ≡ kindHere before (number_of w)
+    pub rank-over : 4 < here → 0 ≡ kind_here before (number_of w)
     unfolding number_of
     rank-over l = cc (kind-later before (number_of w) h, lt-leb here 4 l)
 
-    pub rank_falls : here ≤ 4 → here < least → 0 ≡ kindHere before (number_of w)
+    pub rank_falls : here ≤ 4 → here < least → 0 ≡ kind_here before (number_of w)
     unfolding number_of
     rank_falls m l = cc (kind-later before (number_of w) h, le-leb here 4 m, lt-leb least here l)
 
-    pub later-kind : here ≤ 4 → least ≤ here → w / 2 ≡ kindHere before (number_of w)
+    pub later-kind : here ≤ 4 → least ≤ here → w / 2 ≡ kind_here before (number_of w)
     unfolding number_of
     later-kind m l = cc (kind-later before (number_of w) h, le-leb here 4 m, le-leb least here l)
 
@@ -68,12 +68,12 @@ unfolding row_kind numbers
 no_kind before row filled h = let e : filled ≡ 0 = omega arith in rw e
 
 -- a row without words has the number 0 in its first place, which is no kind
-empty-kind : (before : ℕ) → kindHere before (number_of 0) ≡ 0
-unfolding kindHere within number_of
+empty-kind : (before : ℕ) → kind_here before (number_of 0) ≡ 0
+unfolding kind_here within number_of
 empty-kind zero = refl
 empty-kind (suc before) = refl
 
-pub first-number : (before : ℕ) (row : List ℕ) (filled : ℕ) → 0 < filled → kindHere before (number_of (get_or row 0 0)) ≡ row_kind before (numbers filled row)
+pub first-number : (before : ℕ) (row : List ℕ) (filled : ℕ) → 0 < filled → kind_here before (number_of (get_or row 0 0)) ≡ row_kind before (numbers filled row)
 unfolding row_kind numbers
 first-number before row zero h = absurd (omega arith)
 first-number before [] (suc filled) h = empty-kind before

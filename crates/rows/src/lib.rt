@@ -1,8 +1,8 @@
 // The lines of a sheet: where one ends, its filled columns as words, and its kind.
 ghost use Rattle.std.specs.Prelude.{◌≡◌, ◌+◌, ◌*◌, ◌≤◌, length, take, drop};
-ghost use Rattle.definitions.specs.Questions.{columns, within, goodLength, rank};
+ghost use Rattle.definitions.specs.Questions.{columns, within, good_length, rank};
 ghost use Rattle.encoding.specs.Signs.{word_of, number_of, numbers};
-ghost use Rattle.rows.specs.Rows.{lineLength, line_at, kindHere, row_kind, rowAsked, rowCount, start_of, startAsked, startCount};
+ghost use Rattle.rows.specs.Rows.{line_length, line_at, kind_here, row_kind, row_asked, row_count, start_of, start_asked, start_count};
 
 use column::ColumnRead;
 use encoding::COLUMNS;
@@ -27,7 +27,7 @@ pub enum LineStart {
 // The place of the first LF from here on, or the sheet's length where there is none.
 pub fn line_end(sheet: &[u8], from: usize) -> usize
     requires { from ≤ length sheet.now }
-    ensures { result ≡ from + lineLength (drop from sheet.now) }
+    ensures { result ≡ from + line_length (drop from sheet.now) }
 {
     let mut at = from;
     while at < sheet.len() {
@@ -52,7 +52,7 @@ fn word(negative: bool, size: u16) -> u16
 
 // Question 5: whether a line may have so many bytes.
 fn is_good_length(length: usize) -> bool
-    ensures { result ≡ goodLength length }
+    ensures { result ≡ good_length length }
 {
     if length < 4 {
         return false;
@@ -66,8 +66,8 @@ fn is_good_length(length: usize) -> bool
 // Question 6: the filled columns of a line as words, from the row's first place on.
 fn read_row(sheet: &[u8], from: usize, count: usize, row: &mut [u16; COLUMNS]) -> RowRead
     requires { (from + 4 * count ≤ length sheet.now) × (count ≤ 34) }
-    ensures reads { columns (take (4 * count) (drop from sheet.now)) ≡ rowAsked result row.new }
-    ensures fits { rowCount result ≤ 34 }
+    ensures reads { columns (take (4 * count) (drop from sheet.now)) ≡ row_asked result row.new }
+    ensures fits { row_count result ≤ 34 }
 {
     // Lent as a slice, the row shows its length, which the proof needs.
     let _whole: &[u16] = row;
@@ -117,7 +117,7 @@ fn rank_of(kind: usize) -> usize
 
 // Question 7: the kind of a line by its first number, 0 where it is none that may stand here.
 fn kind_here(before: usize, word: u16) -> usize
-    ensures { result ≡ kindHere before (number_of word) }
+    ensures { result ≡ kind_here before (number_of word) }
 {
     if before == 0 {
         if in_range(word, 1, 1) {
@@ -159,8 +159,8 @@ pub fn read_line(
     row: &mut [u16; COLUMNS],
 ) -> LineStart
     requires { (from ≤ end) × (end ≤ length sheet.now) }
-    ensures reads { start_of before (line_at sheet.now from end) ≡ startAsked result row.new }
-    ensures fits { startCount result ≤ 34 }
+    ensures reads { start_of before (line_at sheet.now from end) ≡ start_asked result row.new }
+    ensures fits { start_count result ≤ 34 }
 {
     if end == sheet.len() {
         return LineStart::No(4);

@@ -4,12 +4,12 @@ use mathlib.Core.Path.{◌≡◌, refl}
 use mathlib.Core.List.{List}
 use lib.ListN.{take}
 use borrow.Author.Tests.{ne_eqb}
-use Rattle.definitions.specs.Words.{Clause, RuleLine, oneWay, twoWay}
+use Rattle.definitions.specs.Words.{Clause, RuleLine, one_way, two_way}
 use Rattle.definitions.specs.Sheet.{Number}
-use Rattle.definitions.specs.Questions.{Asked, no, yes, constantsAsked, arityAsked, ruleAsked, twoWayAsked, clauseAsked}
+use Rattle.definitions.specs.Questions.{Asked, no, yes, constants_asked, arity_asked, rule_asked, two_way_asked, clause_asked}
 use Rattle.encoding.specs.Encoding.{arrays}
 use Rattle.lines.specs.LineReads.{ConstantsRead, SymbolRead, RuleRead, ClauseRead}
-use Rattle.sheet.specs.LineHolds.{withArities, withRules, withEntered, ConstantsHeld, SymbolHeld, RuleHeld, ClauseEntersHeld, LineHeld}
+use Rattle.sheet.specs.LineHolds.{with_arities, with_rules, with_entered, ConstantsHeld, SymbolHeld, RuleHeld, ClauseEntersHeld, LineHeld}
 use Rattle.encoding.specs.declared.Sizes.{Sizes}
 use Rattle.lines.specs.declared.LineRead.{LineRead}
 
@@ -19,40 +19,40 @@ module _ (answer : LineRead) (s : Sizes) (a r st l t i : List ℕ) where
   constants-held (yes n) h = (h, refl)
 
   symbol-held : (a₁ : List ℕ) (m : Asked ℕ) → SymbolRead m answer s a a₁ → SymbolHeld m answer s (arrays a r st l t i) (arrays a₁ r st l t i)
-  unfolding withArities
+  unfolding with_arities
   symbol-held a₁ (no q) h = h
   symbol-held a₁ (yes n) h = (h.0, rw h.1)
 
   rule-held : {A : Type 0} (line : A → RuleLine) (r₁ : List ℕ) (m : Asked A) → RuleRead line m answer s r r₁ → RuleHeld line m answer s (arrays a r st l t i) (arrays a r₁ st l t i)
-  unfolding withRules
+  unfolding with_rules
   rule-held line r₁ (no q) h = h
   rule-held line r₁ (yes x) h = (h.0, rw h.1)
 
   clause-held : (st₁ l₁ t₁ i₁ : List ℕ) (m : Asked Clause) → ClauseRead m answer s st st₁ l l₁ t t₁ i i₁
       → ClauseEntersHeld m answer s (arrays a r st l t i) (arrays a r st₁ l₁ t₁ i₁)
-  unfolding withEntered
+  unfolding with_entered
   clause-held st₁ l₁ t₁ i₁ (no q) h = h
   clause-held st₁ l₁ t₁ i₁ (yes c) h = (h.answer, rw (h.starts, h.literals, h.table, h.index))
 
   module _ (k : ℕ) (ns : List Number) where
-    pub line-of-constants : k ≡ 1 → ConstantsRead (constantsAsked ns) answer s → LineHeld k ns answer s (arrays a r st l t i) (arrays a r st l t i)
-    line-of-constants e h = rw e (constants-held (constantsAsked ns) h)
+    pub line-of-constants : k ≡ 1 → ConstantsRead (constants_asked ns) answer s → LineHeld k ns answer s (arrays a r st l t i) (arrays a r st l t i)
+    line-of-constants e h = rw e (constants-held (constants_asked ns) h)
 
-    pub line-of-symbol : (a₁ : List ℕ) → k ≡ 2 → SymbolRead (arityAsked s.symbols ns) answer s a a₁
+    pub line-of-symbol : (a₁ : List ℕ) → k ≡ 2 → SymbolRead (arity_asked s.symbols ns) answer s a a₁
         → LineHeld k ns answer s (arrays a r st l t i) (arrays a₁ r st l t i)
-    line-of-symbol a₁ e h = rw e (symbol-held a₁ (arityAsked s.symbols ns) h)
+    line-of-symbol a₁ e h = rw e (symbol-held a₁ (arity_asked s.symbols ns) h)
 
-    pub line-of-rule : (r₁ : List ℕ) → k ≡ 3 → RuleRead oneWay (ruleAsked s.constants (take s.symbols a) s.counted ns) answer s r r₁
+    pub line-of-rule : (r₁ : List ℕ) → k ≡ 3 → RuleRead one_way (rule_asked s.constants (take s.symbols a) s.counted ns) answer s r r₁
         → LineHeld k ns answer s (arrays a r st l t i) (arrays a r₁ st l t i)
-    line-of-rule r₁ e h = rw e (rule-held oneWay r₁ (ruleAsked s.constants (take s.symbols a) s.counted ns) h)
+    line-of-rule r₁ e h = rw e (rule-held one_way r₁ (rule_asked s.constants (take s.symbols a) s.counted ns) h)
 
-    pub line-of-two-way : (r₁ : List ℕ) → k ≡ 8 → RuleRead twoWay (twoWayAsked s.constants (take s.symbols a) s.counted ns) answer s r r₁
+    pub line-of-two-way : (r₁ : List ℕ) → k ≡ 8 → RuleRead two_way (two_way_asked s.constants (take s.symbols a) s.counted ns) answer s r r₁
         → LineHeld k ns answer s (arrays a r st l t i) (arrays a r₁ st l t i)
-    line-of-two-way r₁ e h = rw e (rule-held twoWay r₁ (twoWayAsked s.constants (take s.symbols a) s.counted ns) h)
+    line-of-two-way r₁ e h = rw e (rule-held two_way r₁ (two_way_asked s.constants (take s.symbols a) s.counted ns) h)
 
     pub line-of-clause : (st₁ l₁ t₁ i₁ : List ℕ) → (k ≡ 1 → ⊥) → (k ≡ 2 → ⊥) → (k ≡ 3 → ⊥) → (k ≡ 8 → ⊥)
-        → ClauseRead (clauseAsked s.constants (take s.symbols a) s.clauses ns) answer s st st₁ l l₁ t t₁ i i₁
+        → ClauseRead (clause_asked s.constants (take s.symbols a) s.clauses ns) answer s st st₁ l l₁ t t₁ i i₁
         → LineHeld k ns answer s (arrays a r st l t i) (arrays a r st₁ l₁ t₁ i₁)
     line-of-clause st₁ l₁ t₁ i₁ n₁ n₂ n₃ n₈ h =
         rw (ne_eqb k 1 n₁, LineHeld)
-        (rw (ne_eqb k 2 n₂) (rw (ne_eqb k 3 n₃) (rw (ne_eqb k 8 n₈) (clause-held st₁ l₁ t₁ i₁ (clauseAsked s.constants (take s.symbols a) s.clauses ns) h))))
+        (rw (ne_eqb k 2 n₂) (rw (ne_eqb k 3 n₃) (rw (ne_eqb k 8 n₈) (clause-held st₁ l₁ t₁ i₁ (clause_asked s.constants (take s.symbols a) s.clauses ns) h))))

@@ -12,17 +12,17 @@ use lib.ListN.{length, get_or, drop, set, length-drop, drop_of_length-le}
 use lib.Seq.{sets, set-set, take_all, drop-cons, drop-drop}
 use borrow.Author.Tests.{ltb-true, ltb-false, le-leb, lt-leb}
 use Rattle.definitions.specs.Lists.{joined, distinct}
-use Rattle.definitions.specs.Words.{Clause, Problem, goalAtoms}
+use Rattle.definitions.specs.Words.{Clause, Problem, goal_atoms}
 use Rattle.definitions.specs.Sheet.{Line, lines}
-use Rattle.definitions.specs.Questions.{Asked, no, yes, Parsed, counted, columnsAsked, Draft, readLine, refused, accepted, readLines, emptyDraft, read}
+use Rattle.definitions.specs.Questions.{Asked, no, yes, Parsed, counted, columns_asked, Draft, read_line, refused, accepted, read_lines, empty_draft, read}
 use Rattle.theory.specs.Tests.{by-test, apart}
 use Rattle.theory.specs.ListLaws.{none-empty, some-full}
 use Rattle.theory.specs.AskedLaws.{bind-yes, ask-yes}
 use Rattle.theory.specs.Limits.{line-begun}
 use Rattle.encoding.specs.Signs.{numbers}
-use Rattle.rows.specs.Rows.{lineLength, line_at, start_of, startAsked}
-use Rattle.rows.specs.RowLaws.{lineLength-le, lines_none, lines-ended, lines-unended}
-use Rattle.encoding.specs.Encoding.{startsFrom, indexFrom, emptyIndex, sizesOf, Arrays, arrays, hold}
+use Rattle.rows.specs.Rows.{line_length, line_at, start_of, start_asked}
+use Rattle.rows.specs.RowLaws.{line_length-le, lines_none, lines-ended, lines-unended}
+use Rattle.encoding.specs.Encoding.{starts_from, index_from, empty_index, sizes_of, Arrays, arrays, hold}
 use Rattle.lines.specs.LineReads.{Ready}
 use Rattle.sheet.specs.LineHolds.{LineHeld, SheetRead}
 use Rattle.sheet.specs.SheetLaws.{Started, draft-ready, start-refused, LineEnds, line-ends}
@@ -44,51 +44,51 @@ module _ (sheet : List ℕ) where
   unfolding read
   read-empty h e = cc (le-leb (length sheet) 16384 h, none-empty sheet e)
 
-  read_all : length sheet ≤ 16384 → (length sheet ≡ 0 → ⊥) → read sheet ≡ readLines emptyDraft 1 (lines sheet)
+  read_all : length sheet ≤ 16384 → (length sheet ≡ 0 → ⊥) → read sheet ≡ read_lines empty_draft 1 (lines sheet)
   unfolding read
   read_all h n = cc (le-leb (length sheet) 16384 h, some-full sheet n)
 
 -- ── the line at a place of the sheet ──
 
-module _ (sheet : List ℕ) (from end : ℕ) (inside : from < length sheet) (ends : end ≡ from + lineLength (drop from sheet)) where
+module _ (sheet : List ℕ) (from end : ℕ) (inside : from < length sheet) (ends : end ≡ from + line_length (drop from sheet)) where
   pub line-inside : (from ≤ end) × (end ≤ length sheet)
-  line-inside = omega (arith, lineLength-le (drop from sheet), length-drop from sheet)
+  line-inside = omega (arith, line_length-le (drop from sheet), length-drop from sheet)
 
   line_first : lines (drop from sheet) ≡ line_at sheet from end ∷ lines (drop (end + 1) sheet)
   line_first =
-      let size : end - from ≡ lineLength (drop from sheet) = omega arith in
+      let size : end - from ≡ line_length (drop from sheet) = omega arith in
       let left = length-drop from sheet in
       by-test (ltb end (length sheet))
       (λ t.
       let l = ltb-true end (length sheet) t in
-      let next : end + 1 ≡ from + suc (lineLength (drop from sheet)) = omega arith in
-      rw (t, size, next, ← drop-drop (suc (lineLength (drop from sheet))) from sheet) (lines-ended (drop from sheet) (omega arith)))
+      let next : end + 1 ≡ from + suc (line_length (drop from sheet)) = omega arith in
+      rw (t, size, next, ← drop-drop (suc (line_length (drop from sheet))) from sheet) (lines-ended (drop from sheet) (omega arith)))
       (λ t.
       let l = ltb-false end (length sheet) t in
       let all : length (drop from sheet) ≤ end - from = omega arith in
-      let whole : lineLength (drop from sheet) ≡ length (drop from sheet) = omega (arith, lineLength-le (drop from sheet)) in
+      let whole : line_length (drop from sheet) ≡ length (drop from sheet) = omega (arith, line_length-le (drop from sheet)) in
       let last = drop-cons sheet from 0 inside in
       rw (t, take_all (end - from) (drop from sheet) all, drop_of_length-le sheet {i = end + 1} (omega arith), lines_none, last)
       (lines-unended (get_or sheet from 0) (drop (suc from) sheet) (rw last at whole)))
 
 -- a line that questions 4 to 7 let pass has its LF
 start-ended : (before : ℕ) (l : Line) (k : Parsed ℕ) → start_of before l ≡ yes k → l.ended ≡ true
-unfolding start_of columnsAsked
+unfolding start_of columns_asked
 start-ended before l k e =
-    let (ns, columns, _) = bind-yes (columnsAsked l) _ k e in
+    let (ns, columns, _) = bind-yes (columns_asked l) _ k e in
     (ask-yes 4 l.ended _ ns columns).0
 
 -- ── the arrays before the first line ──
 
 -- the first start is 0 whatever is read, so to store it beforehand changes nothing
-starts-zero : (cs : List Clause) (starts : List ℕ) → sets (set starts 0 0) 0 (startsFrom 0 cs) ≡ sets starts 0 (startsFrom 0 cs)
-unfolding startsFrom
+starts-zero : (cs : List Clause) (starts : List ℕ) → sets (set starts 0 0) 0 (starts_from 0 cs) ≡ sets starts 0 (starts_from 0 cs)
+unfolding starts_from
 starts-zero [] starts = set-set starts 0 0 0
-starts-zero (c ∷ cs) starts = ap (λ (x : List ℕ). sets x 1 (startsFrom (0 + length c) cs)) (set-set starts 0 0 0)
+starts-zero (c ∷ cs) starts = ap (λ (x : List ℕ). sets x 1 (starts_from (0 + length c) cs)) (set-set starts 0 0 0)
 
 module _ (arities rules starts literals table index : List ℕ) where
-  hold-nothing : arrays arities rules (set starts 0 0) literals table index ≡ hold emptyDraft.problem (arrays arities rules (set starts 0 0) literals table index)
-  unfolding hold emptyDraft startsFrom joined goalAtoms distinct indexFrom
+  hold-nothing : arrays arities rules (set starts 0 0) literals table index ≡ hold empty_draft.problem (arrays arities rules (set starts 0 0) literals table index)
+  unfolding hold empty_draft starts_from joined goal_atoms distinct index_from
   hold-nothing = rw (set-set starts 0 0 0)
 
   hold-zero : (p : Problem) → hold p (arrays arities rules (set starts 0 0) literals table index) ≡ hold p (arrays arities rules starts literals table index)
@@ -100,28 +100,28 @@ module _ (arities rules starts literals table index : List ℕ) where
 -- after some lines: the draft that they make, which the arrays hold, and the sheet from the next line on
 pub record ReadUpTo (sheet : List ℕ) (start held : Arrays) (s : Sizes) (before from line : ℕ) : Type 0 where
   pub short : length sheet ≤ 16384
-  pub empty : start.index ≡ emptyIndex
+  pub empty : start.index ≡ empty_index
   pub wide : length start.arities ≡ 16
   pub draft : Draft
   pub started : Started draft
   pub kind : draft.before ≡ before
-  pub sizes : s ≡ sizesOf draft.problem
+  pub sizes : s ≡ sizes_of draft.problem
   pub holds : held ≡ hold draft.problem start
   pub inside : from ≤ length sheet
   pub counted : line ≤ from + 1
-  pub rest : readLines draft line (lines (drop from sheet)) ≡ read sheet
+  pub rest : read_lines draft line (lines (drop from sheet)) ≡ read sheet
 
 module _ {sheet arities rules : List ℕ} (starts : List ℕ) {literals table index : List ℕ} where
-  pub reached-start : length sheet ≤ 16384 → (length sheet ≡ 0 → ⊥) → index ≡ emptyIndex → length arities ≡ 16
+  pub reached-start : length sheet ≤ 16384 → (length sheet ≡ 0 → ⊥) → index ≡ empty_index → length arities ≡ 16
       → ReadUpTo sheet (arrays arities rules (set starts 0 0) literals table index) (arrays arities rules (set starts 0 0) literals table index)
       (record { constants = 0; symbols = 0; rules = 0; counted = 0; clauses = 0; atoms = 0; literals = 0 }) 0 0 1
-  unfolding sizesOf emptyDraft joined goalAtoms distinct counted
+  unfolding sizes_of empty_draft joined goal_atoms distinct counted
   reached-start h n e w =
       record {
         short = h;
         empty = e;
         wide = w;
-        draft = emptyDraft;
+        draft = empty_draft;
         started = inl refl;
         kind = refl;
         sizes = refl;
@@ -133,7 +133,7 @@ module _ {sheet arities rules : List ℕ} (starts : List ℕ) {literals table in
 
   pub reached-end : {held : Arrays} {s : Sizes} {before from line : ℕ} → ReadUpTo sheet (arrays arities rules (set starts 0 0) literals table index) held s before from line
       → length sheet ≤ from → SheetRead (read sheet) (Accepted s) (arrays arities rules starts literals table index) held
-  unfolding readLines
+  unfolding read_lines
   reached-end reached h =
       let none = drop_of_length-le sheet h in
       let all : read sheet ≡ accepted reached.draft.problem = sym reached.rest ∙ cc (lines_none) in
@@ -142,17 +142,17 @@ module _ {sheet arities rules : List ℕ} (starts : List ℕ) {literals table in
 -- the line that starts there: its end, and questions 4 to 7 by what was handed back, its filled columns as words in a row
 pub record Starts (sheet : List ℕ) (before from end : ℕ) (start : LineStart) (row : List ℕ) : Type 0 where
   pub more : from < length sheet
-  pub ends : end ≡ from + lineLength (drop from sheet)
-  pub asked : start_of before (line_at sheet from end) ≡ startAsked start row
+  pub ends : end ≡ from + line_length (drop from sheet)
+  pub asked : start_of before (line_at sheet from end) ≡ start_asked start row
 
 -- what a line comes to, by the answer of its reader
-module _ (start : Arrays) (empty : start.index ≡ emptyIndex) (wide : length start.arities ≡ 16) where
+module _ (start : Arrays) (empty : start.index ≡ empty_index) (wide : length start.arities ≡ 16) where
   ends-no : (m : Asked Draft) (k : ℕ) (r : LineRead) (after : Arrays) → LineEnds start empty wide m k r after → (q : ℕ) → r ≡ No q → m ≡ no q
   ends-no (no p) k r after h q e = cc
   ends-no (yes d) k r after h q e = let g = h.1 in apart (cc)
 
   ends-yes : (m : Asked Draft) (k : ℕ) (r : LineRead) (after : Arrays) → LineEnds start empty wide m k r after → (s : Sizes) → r ≡ Yes s
-      → (d : Draft) × (m ≡ yes d) × (d.before ≡ k) × (s ≡ sizesOf d.problem) × (after ≡ hold d.problem start)
+      → (d : Draft) × (m ≡ yes d) × (d.before ≡ k) × (s ≡ sizes_of d.problem) × (after ≡ hold d.problem start)
   ends-yes (no p) k r after h s e = apart (cc)
   ends-yes (yes d) k r after h s e = let g = h.1 in (d, refl, h.0, (cc), h.2)
 
@@ -163,26 +163,26 @@ module _ {sheet : List ℕ} {start held : Arrays} {s : Sizes} {before from line 
       (draft-ready start reached.empty reached.wide reached.draft reached.started)
 
   module _ {end : ℕ} {handed : LineStart} {row : List ℕ} (starts : Starts sheet before from end handed row) where
-    asked : start_of reached.draft.before (line_at sheet from end) ≡ startAsked handed row
+    asked : start_of reached.draft.before (line_at sheet from end) ≡ start_asked handed row
     asked = rw reached.kind starts.asked
 
     -- a line that is refused: its question and its number are the sheet's
-    line_refused : (q : ℕ) → readLine reached.draft (line_at sheet from end) ≡ no q → read sheet ≡ refused q line
-    unfolding readLines
+    line_refused : (q : ℕ) → read_line reached.draft (line_at sheet from end) ≡ no q → read sheet ≡ refused q line
+    unfolding read_lines
     line_refused q e = sym reached.rest ∙ cc (line_first sheet from end starts.more starts.ends)
 
     -- one of questions 4 to 7 is answered no
     pub start-stop : {q : ℕ} → handed ≡ NoStart q → read sheet ≡ refused q line
-    unfolding startAsked
+    unfolding start_asked
     start-stop {q} e = line_refused q (start-refused reached.draft _ q (asked ∙ rw e))
 
     module _ {kind filled : ℕ} (e : handed ≡ Kind kind filled) where
       kind-asked : start_of reached.draft.before (line_at sheet from end) ≡ yes (record { found = kind; left = drop 1 (numbers filled row) })
-      unfolding startAsked
+      unfolding start_asked
       kind-asked = asked ∙ rw e
 
       module _ (answer : LineRead) (after : Arrays) (line-held : LineHeld kind (drop 1 (numbers filled row)) answer s held after) where
-        ended : LineEnds start reached.empty reached.wide (readLine reached.draft (line_at sheet from end)) kind answer after
+        ended : LineEnds start reached.empty reached.wide (read_line reached.draft (line_at sheet from end)) kind answer after
         ended =
             line-ends start reached.empty reached.wide reached.draft reached.started _ kind _ kind-asked answer after
             (rw (reached.sizes, reached.holds) at line-held)
@@ -193,7 +193,7 @@ module _ {sheet : List ℕ} {start held : Arrays} {s : Sizes} {before from line 
 
         -- the line is read, and the next one stands behind its LF
         pub reached-next : {next : Sizes} → answer ≡ Yes next → ReadUpTo sheet start after next kind (end + 1) (line + 1)
-        unfolding readLines
+        unfolding read_lines
         reached-next {next} f =
             let (d, q, k, z, h) = ends-yes start reached.empty reached.wide _ kind answer after ended next f in
             record {

@@ -8,9 +8,9 @@ use mathlib.Core.List.Memᴰ
 use mathlib.Core.List.{List, [], ◌∷◌, ◌++◌, map, append-nil}
 use Rattle.std.proofs.Math.ListN.{length}
 use Rattle.definitions.specs.Lists.{◌∈◌, joined, distinct}
-use Rattle.definitions.specs.Words.{Literal, Clause, RuleLine, oneWay, twoWay, Problem, goalAtoms}
+use Rattle.definitions.specs.Words.{Literal, Clause, RuleLine, one_way, two_way, Problem, goal_atoms}
 use Rattle.definitions.specs.Sheet.{Line, Number}
-use Rattle.definitions.specs.Questions.{Asked, no, yes, ◌>>=◌, ◌>>◌, ask, constantsAsked, arityAsked, ruleAsked, twoWayAsked, clauseAsked, counted, rulesOf, withConstants, withSymbol, withLine, withClause, constantsLine, symbolLine, ruleLine, twoWayLine, clauseLine, lineOfKind, columnsAsked, Draft, readLine, emptyDraft}
+use Rattle.definitions.specs.Questions.{Asked, no, yes, ◌>>=◌, ◌>>◌, ask, constants_asked, arity_asked, rule_asked, two_way_asked, clause_asked, counted, rules_of, with_constants, with_symbol, with_line, with_clause, constants_line, symbol_line, rule_line, two_way_line, clause_line, line_of_kind, columns_asked, Draft, read_line, empty_draft}
 use Rattle.theory.specs.Tests.{by-test}
 use Rattle.theory.specs.ListLaws.{joined-append, joined_length}
 use Rattle.theory.specs.AskedLaws.{by-asked}
@@ -18,20 +18,20 @@ use Rattle.theory.specs.TwoWayLaws.{counted-more, rules-counted, FromLines}
 use Rattle.theory.specs.Limits.{LiteralLimits, Limits, arity-limit, clause-asked-limits, Begun}
 use Rattle.column.specs.Sets.{sets-taken}
 use Rattle.rows.specs.Rows.{start_of}
-use Rattle.encoding.specs.Slots.{asPattern, slotWords}
+use Rattle.encoding.specs.Slots.{as_pattern, slot_words}
 use Rattle.literals.specs.Entering.{Entered}
-use Rattle.encoding.specs.Encoding.{Arrays, emptyIndex, sizesOf, hold}
+use Rattle.encoding.specs.Encoding.{Arrays, empty_index, sizes_of, hold}
 use Rattle.literals.specs.HeldClauseLaws.{entered_of, hold-index-within, clause-held}
 use Rattle.sheet.specs.HoldingLaws.{hold-symbol, hold-line, hold-clause}
 use Rattle.encoding.specs.HoldLaws.{Encodable, limits-encodable}
-use Rattle.lines.specs.LineReads.{moreConstants, moreSymbols, moreRules, moreClauses, clauseEntered, clauseAnswer, Ready}
-use Rattle.sheet.specs.LineHolds.{withArities, withRules, withEntered, ConstantsHeld, SymbolHeld, RuleHeld, ClauseEntersHeld, LineHeld}
+use Rattle.lines.specs.LineReads.{more_constants, more_symbols, more_rules, more_clauses, clause_entered, clause_answer, Ready}
+use Rattle.sheet.specs.LineHolds.{with_arities, with_rules, with_entered, ConstantsHeld, SymbolHeld, RuleHeld, ClauseEntersHeld, LineHeld}
 use Rattle.encoding.specs.declared.Sizes.{Sizes}
 use Rattle.lines.specs.declared.LineRead.{LineRead}
 use Rattle.lines.specs.declared.LineRead.TheVariants.{No, Yes}
 
-literals-more : (p : Problem) (c : Clause) → length (joined (λ (x : Clause). x) (withClause p c).clauses) ≡ length (joined (λ (x : Clause). x) p.clauses) + length c
-unfolding withClause joined
+literals-more : (p : Problem) (c : Clause) → length (joined (λ (x : Clause). x) (with_clause p c).clauses) ≡ length (joined (λ (x : Clause). x) p.clauses) + length c
+unfolding with_clause joined
 literals-more p c =
     omega (arith, ap length (joined-append (λ (x : Clause). x) p.clauses (c ∷ [])), length-append (joined (λ (x : Clause). x) p.clauses) (c ++ []), ap length (append-nil c))
 
@@ -39,30 +39,30 @@ literals-more p c =
 
 -- a draft before its first line, or after some
 abbrev pub Started : Draft → Type 0
-Started d = (d ≡ emptyDraft) ⊎ Begun d
+Started d = (d ≡ empty_draft) ⊎ Begun d
 
-module _ (before : Arrays) (empty : before.index ≡ emptyIndex) (wide : length before.arities ≡ 16) where
+module _ (before : Arrays) (empty : before.index ≡ empty_index) (wide : length before.arities ≡ 16) where
   held-arities : (p : Problem) → length p.arities ≤ 16 → take (length p.arities) (hold p before).arities ≡ p.arities
   unfolding hold
   held-arities p h = sets-taken before.arities p.arities (omega arith)
 
-  limits-ready : (p : Problem) → Limits p → FromLines p → Ready (sizesOf p) (hold p before).arities (hold p before).index
-  unfolding sizesOf
+  limits-ready : (p : Problem) → Limits p → FromLines p → Ready (sizes_of p) (hold p before).arities (hold p before).index
+  unfolding sizes_of
   limits-ready p l f =
       record {
         constants = l.constants;
         symbols = l.symbols;
         arity = λ i. rw (held-arities p l.symbols) (arity-limit p l i);
-        rules = omega (arith, ap length f.rules, rules-counted p.ruleLines);
+        rules = omega (arith, ap length f.rules, rules-counted p.rule_lines);
         counted = f.few;
         clauses = l.clauses;
         atoms = l.goals;
-        literals = joined_length (λ (c : Clause). c) 8 p.clauses (λ c m. (l.eachClause c m).literals);
+        literals = joined_length (λ (c : Clause). c) 8 p.clauses (λ c m. (l.each_clause c m).literals);
         index = hold-index-within p before empty;
       }
 
-  empty-ready : Ready (sizesOf emptyDraft.problem) (hold emptyDraft.problem before).arities (hold emptyDraft.problem before).index
-  unfolding sizesOf emptyDraft joined goalAtoms distinct counted
+  empty-ready : Ready (sizes_of empty_draft.problem) (hold empty_draft.problem before).arities (hold empty_draft.problem before).index
+  unfolding sizes_of empty_draft joined goal_atoms distinct counted
   empty-ready =
       record {
         constants = omega arith;
@@ -73,16 +73,16 @@ module _ (before : Arrays) (empty : before.index ≡ emptyIndex) (wide : length 
         clauses = omega arith;
         atoms = omega arith;
         literals = omega arith;
-        index = hold-index-within emptyDraft.problem before empty;
+        index = hold-index-within empty_draft.problem before empty;
       }
 
-  pub draft-ready : (d : Draft) → Started d → Ready (sizesOf d.problem) (hold d.problem before).arities (hold d.problem before).index
-  draft-ready d (inr b) = limits-ready d.problem b.limits b.fromLines
+  pub draft-ready : (d : Draft) → Started d → Ready (sizes_of d.problem) (hold d.problem before).arities (hold d.problem before).index
+  draft-ready d (inr b) = limits-ready d.problem b.limits b.from_lines
   draft-ready d (inl q) =
-      subst (λ (e : Draft). Ready (sizesOf e.problem) (hold e.problem before).arities (hold e.problem before).index) (sym q) empty-ready
+      subst (λ (e : Draft). Ready (sizes_of e.problem) (hold e.problem before).arities (hold e.problem before).index) (sym q) empty-ready
 
   started-symbols : (d : Draft) → Started d → length d.problem.arities ≤ 16
-  unfolding sizesOf
+  unfolding sizes_of
   started-symbols d i = (draft-ready d i).symbols
 
   -- ── a line of each kind ──
@@ -90,63 +90,63 @@ module _ (before : Arrays) (empty : before.index ≡ emptyIndex) (wide : length 
   -- what the questions come to, what the reader answers, and what the arrays hold then
   abbrev pub LineNext : Asked Problem → LineRead → Arrays → Type 0
   LineNext (no q) r after = r ≡ No q
-  LineNext (yes p) r after = (r ≡ Yes (sizesOf p)) × (after ≡ hold p before)
+  LineNext (yes p) r after = (r ≡ Yes (sizes_of p)) × (after ≡ hold p before)
 
-  constants-next : (p : Problem) (m : Asked ℕ) (r : LineRead) (after : Arrays) → ConstantsHeld m r (sizesOf p) (hold p before) after
-      → LineNext (m >>= λ n. yes (withConstants p n)) r after
-  unfolding ◌>>=◌ sizesOf moreConstants withConstants hold
+  constants-next : (p : Problem) (m : Asked ℕ) (r : LineRead) (after : Arrays) → ConstantsHeld m r (sizes_of p) (hold p before) after
+      → LineNext (m >>= λ n. yes (with_constants p n)) r after
+  unfolding ◌>>=◌ sizes_of more_constants with_constants hold
   constants-next p (no q) r after h = h
   constants-next p (yes n) r after h = h
 
-  symbol-next : (p : Problem) (m : Asked ℕ) (r : LineRead) (after : Arrays) → SymbolHeld m r (sizesOf p) (hold p before) after
-      → LineNext (m >>= λ n. yes (withSymbol p n)) r after
-  unfolding ◌>>=◌ sizesOf moreSymbols withSymbol withArities
+  symbol-next : (p : Problem) (m : Asked ℕ) (r : LineRead) (after : Arrays) → SymbolHeld m r (sizes_of p) (hold p before) after
+      → LineNext (m >>= λ n. yes (with_symbol p n)) r after
+  unfolding ◌>>=◌ sizes_of more_symbols with_symbol with_arities
   symbol-next p (no q) r after h = h
   symbol-next p (yes n) r after h = (h.0 ∙ ap (λ k. Yes (with-symbols k)) (sym (length-append p.arities (n ∷ []))), h.1 ∙ hold-symbol p before n)
     where
       with-symbols : ℕ → Sizes
-      with-symbols k = record { constants = p.constants; symbols = k; rules = length p.rules; counted = counted p.ruleLines; clauses = length p.clauses; atoms = length (goalAtoms p.clauses); literals = length (joined (λ (c : Clause). c) p.clauses) }
+      with-symbols k = record { constants = p.constants; symbols = k; rules = length p.rules; counted = counted p.rule_lines; clauses = length p.clauses; atoms = length (goal_atoms p.clauses); literals = length (joined (λ (c : Clause). c) p.clauses) }
 
-  line-sizes : (p : Problem) (l : RuleLine) → moreRules l (sizesOf p) ≡ sizesOf (withLine p l)
-  unfolding moreRules sizesOf withLine
-  line-sizes p l = cc (length-append p.rules (rulesOf l), counted-more p.ruleLines l)
+  line-sizes : (p : Problem) (l : RuleLine) → more_rules l (sizes_of p) ≡ sizes_of (with_line p l)
+  unfolding more_rules sizes_of with_line
+  line-sizes p l = cc (length-append p.rules (rules_of l), counted-more p.rule_lines l)
 
-  rule-next : {A : Type 0} (line : A → RuleLine) (p : Problem) (m : Asked A) (r : LineRead) (after : Arrays) → RuleHeld line m r (sizesOf p) (hold p before) after
-      → LineNext (m >>= λ x. yes (withLine p (line x))) r after
-  unfolding ◌>>=◌ sizesOf withRules
+  rule-next : {A : Type 0} (line : A → RuleLine) (p : Problem) (m : Asked A) (r : LineRead) (after : Arrays) → RuleHeld line m r (sizes_of p) (hold p before) after
+      → LineNext (m >>= λ x. yes (with_line p (line x))) r after
+  unfolding ◌>>=◌ sizes_of with_rules
   rule-next line p (no q) r after h = h
   rule-next line p (yes x) r after h = (h.0 ∙ ap Yes (line-sizes p (line x)), h.1 ∙ hold-line p before (line x))
 
-  clause-sizes : (p : Problem) (c : Clause) → moreClauses (entered_of (withClause p c) before) (sizesOf p) ≡ sizesOf (withClause p c)
-  unfolding moreClauses sizesOf withClause
+  clause-sizes : (p : Problem) (c : Clause) → more_clauses (entered_of (with_clause p c) before) (sizes_of p) ≡ sizes_of (with_clause p c)
+  unfolding more_clauses sizes_of with_clause
   clause-sizes p c = ap with-clauses (sym (length-append p.clauses (c ∷ [])))
     where
       with-clauses : ℕ → Sizes
-      with-clauses k = record { constants = p.constants; symbols = length p.arities; rules = length p.rules; counted = counted p.ruleLines; clauses = k; atoms = length (goalAtoms (p.clauses ++ (c ∷ []))); literals = length (joined (λ (x : Clause). x) (p.clauses ++ (c ∷ []))) }
+      with-clauses k = record { constants = p.constants; symbols = length p.arities; rules = length p.rules; counted = counted p.rule_lines; clauses = k; atoms = length (goal_atoms (p.clauses ++ (c ∷ []))); literals = length (joined (λ (x : Clause). x) (p.clauses ++ (c ∷ []))) }
 
   -- the answer and the arrays once the clause has entered
-  entered-next : (p : Problem) (c : Clause) (e : Entered) → e ≡ entered_of (withClause p c) before → (r : LineRead) (after : Arrays) (ends : ℕ)
-      → ends ≡ length (joined (λ (x : Clause). x) (withClause p c).clauses)
-      → r ≡ clauseAnswer e (sizesOf p)
-      → after ≡ withEntered (hold p before) (set (hold p before).starts (length p.clauses + 1) ends) e
-      → LineNext (ask 13 (leb (length (goalAtoms (withClause p c).clauses)) 64) >> yes (withClause p c)) r after
-  unfolding ◌>>◌ ask clauseAnswer withEntered
+  entered-next : (p : Problem) (c : Clause) (e : Entered) → e ≡ entered_of (with_clause p c) before → (r : LineRead) (after : Arrays) (ends : ℕ)
+      → ends ≡ length (joined (λ (x : Clause). x) (with_clause p c).clauses)
+      → r ≡ clause_answer e (sizes_of p)
+      → after ≡ with_entered (hold p before) (set (hold p before).starts (length p.clauses + 1) ends) e
+      → LineNext (ask 13 (leb (length (goal_atoms (with_clause p c).clauses)) 64) >> yes (with_clause p c)) r after
+  unfolding ◌>>◌ ask clause_answer with_entered
   entered-next p c e q r after ends f h g =
-      by-test (leb (length (goalAtoms (withClause p c).clauses)) 64)
-      (λ t. rw (t, ask) (h ∙ ap answer q ∙ rw (t, clauseAnswer) (ap Yes (clause-sizes p c)), g ∙ rw (f ∙ ap (λ (x : Entered). x.count) (sym q)) (hold-clause p before c e q)))
-      (λ t. rw (t, ask) (h ∙ ap answer q ∙ rw (t, clauseAnswer) refl))
+      by-test (leb (length (goal_atoms (with_clause p c).clauses)) 64)
+      (λ t. rw (t, ask) (h ∙ ap answer q ∙ rw (t, clause_answer) (ap Yes (clause-sizes p c)), g ∙ rw (f ∙ ap (λ (x : Entered). x.count) (sym q)) (hold-clause p before c e q)))
+      (λ t. rw (t, ask) (h ∙ ap answer q ∙ rw (t, clause_answer) refl))
     where
       answer : Entered → LineRead
-      answer x = clauseAnswer x (sizesOf p)
+      answer x = clause_answer x (sizes_of p)
 
   clause-next : (p : Problem) → Encodable p → (m : Asked Clause) → ((c : Clause) → m ≡ yes c → (l : Literal) → l ∈ c → LiteralLimits p l)
-      → (r : LineRead) (after : Arrays) → ClauseEntersHeld m r (sizesOf p) (hold p before) after
-      → LineNext (m >>= λ c. ask 13 (leb (length (goalAtoms (withClause p c).clauses)) 64) >> yes (withClause p c)) r after
-  unfolding ◌>>=◌ sizesOf clauseEntered
+      → (r : LineRead) (after : Arrays) → ClauseEntersHeld m r (sizes_of p) (hold p before) after
+      → LineNext (m >>= λ c. ask 13 (leb (length (goal_atoms (with_clause p c).clauses)) 64) >> yes (with_clause p c)) r after
+  unfolding ◌>>=◌ sizes_of clause_entered
   clause-next p limits (no q) keeps r after h = h
   clause-next p limits (yes c) keeps r after h =
-      entered-next p c (clauseEntered c (sizesOf p) (hold p before).literals (hold p before).table (hold p before).index)
-      (clause-held p limits before empty c (keeps c refl) (slotWords (map asPattern c)) [] (sym (append-nil (slotWords (map asPattern c)))))
+      entered-next p c (clause_entered c (sizes_of p) (hold p before).literals (hold p before).table (hold p before).index)
+      (clause-held p limits before empty c (keeps c refl) (slot_words (map as_pattern c)) [] (sym (append-nil (slot_words (map as_pattern c)))))
       r after (length (joined (λ (x : Clause). x) p.clauses) + length c) (sym (literals-more p c)) h.0 h.1
 
   -- ── a line of any kind ──
@@ -155,29 +155,29 @@ module _ (before : Arrays) (empty : before.index ≡ emptyIndex) (wide : length 
   started-encodable d (inr b) = limits-encodable d.problem b.limits
   started-encodable d (inl q) = subst (λ (e : Draft). Encodable e.problem) (sym q) nothing
     where
-      nothing : Encodable emptyDraft.problem
-      nothing = unfold emptyDraft in record { codes = record { few = omega arith; symbols = omega arith; eachArity = λ n m. absurd (Memᴰ.not-nil m) }; literals = λ c m. absurd (Memᴰ.not-nil m) }
+      nothing : Encodable empty_draft.problem
+      nothing = unfold empty_draft in record { codes = record { few = omega arith; symbols = omega arith; each_arity = λ n m. absurd (Memᴰ.not-nil m) }; literals = λ c m. absurd (Memᴰ.not-nil m) }
 
   kind-next : (d : Draft) → Started d → (k : ℕ) (ns : List Number) (r : LineRead) (after : Arrays)
-      → LineHeld k ns r (sizesOf d.problem) (hold d.problem before) after → LineNext (lineOfKind k d.problem ns) r after
-  unfolding lineOfKind constantsLine symbolLine ruleLine twoWayLine clauseLine sizesOf
+      → LineHeld k ns r (sizes_of d.problem) (hold d.problem before) after → LineNext (line_of_kind k d.problem ns) r after
+  unfolding line_of_kind constants_line symbol_line rule_line two_way_line clause_line sizes_of
   kind-next d i k ns r after h =
       by-test (eqb k 1)
-      (λ one. rw (one, lineOfKind) (constants-next p (constantsAsked ns) r after (rw (one, LineHeld) at h)))
+      (λ one. rw (one, line_of_kind) (constants-next p (constants_asked ns) r after (rw (one, LineHeld) at h)))
       (λ one. by-test (eqb k 2)
-      (λ two. rw (one, two, lineOfKind) (symbol-next p (arityAsked (length p.arities) ns) r after (rw (one, two, LineHeld) at h)))
+      (λ two. rw (one, two, line_of_kind) (symbol-next p (arity_asked (length p.arities) ns) r after (rw (one, two, LineHeld) at h)))
       (λ two. by-test (eqb k 3)
       (λ three.
-      rw (one, two, three, lineOfKind)
-      (rule-next oneWay p (ruleAsked p.constants p.arities (counted p.ruleLines) ns) r after (rw (one, two, three, held, LineHeld) at h)))
+      rw (one, two, three, line_of_kind)
+      (rule-next one_way p (rule_asked p.constants p.arities (counted p.rule_lines) ns) r after (rw (one, two, three, held, LineHeld) at h)))
       (λ three. by-test (eqb k 8)
       (λ eight.
-      rw (one, two, three, eight, lineOfKind)
-      (rule-next twoWay p (twoWayAsked p.constants p.arities (counted p.ruleLines) ns) r after (rw (one, two, three, eight, held, LineHeld) at h)))
+      rw (one, two, three, eight, line_of_kind)
+      (rule-next two_way p (two_way_asked p.constants p.arities (counted p.rule_lines) ns) r after (rw (one, two, three, eight, held, LineHeld) at h)))
       (λ eight.
-      rw (one, two, three, eight, lineOfKind)
-      (clause-next p (started-encodable d i) (clauseAsked p.constants p.arities (length p.clauses) ns)
-      (λ c e. (clause-asked-limits p ns c e).eachLiteral)
+      rw (one, two, three, eight, line_of_kind)
+      (clause-next p (started-encodable d i) (clause_asked p.constants p.arities (length p.clauses) ns)
+      (λ c e. (clause-asked-limits p ns c e).each_literal)
       r after (rw (one, two, three, eight, held, LineHeld) at h))))))
     where
       p : Problem
@@ -189,30 +189,30 @@ module _ (before : Arrays) (empty : before.index ≡ emptyIndex) (wide : length 
 -- ── the questions of a line, from the columns on ──
 
 -- 4 to 7, and then the others
-after-start : (d : Draft) (l : Line) → readLine d l ≡ (start_of d.before l >>= λ k. lineOfKind k.found d.problem k.left >>= λ p. yes (record { before = k.found; problem = p }))
-unfolding readLine start_of ◌>>=◌
-after-start d l = by-asked (columnsAsked l) (λ q e. cc) (λ ns e. cc)
+after-start : (d : Draft) (l : Line) → read_line d l ≡ (start_of d.before l >>= λ k. line_of_kind k.found d.problem k.left >>= λ p. yes (record { before = k.found; problem = p }))
+unfolding read_line start_of ◌>>=◌
+after-start d l = by-asked (columns_asked l) (λ q e. cc) (λ ns e. cc)
 
 -- one of 4 to 7 is answered no
-pub start-refused : (d : Draft) (l : Line) (q : ℕ) → start_of d.before l ≡ no q → readLine d l ≡ no q
+pub start-refused : (d : Draft) (l : Line) (q : ℕ) → start_of d.before l ≡ no q → read_line d l ≡ no q
 unfolding ◌>>=◌
 start-refused d l q e = cc (after-start d l)
 
 kind-found : (d : Draft) (l : Line) (k : ℕ) (ns : List Number) → start_of d.before l ≡ yes (record { found = k; left = ns })
-    → readLine d l ≡ (lineOfKind k d.problem ns >>= λ p. yes (record { before = k; problem = p }))
+    → read_line d l ≡ (line_of_kind k d.problem ns >>= λ p. yes (record { before = k; problem = p }))
 unfolding ◌>>=◌
 kind-found d l k ns e = cc (after-start d l)
 
-module _ (before : Arrays) (empty : before.index ≡ emptyIndex) (wide : length before.arities ≡ 16) where
+module _ (before : Arrays) (empty : before.index ≡ empty_index) (wide : length before.arities ≡ 16) where
   -- what a line comes to, what the reader answers, and what the arrays hold then
   abbrev pub LineEnds : Asked Draft → ℕ → LineRead → Arrays → Type 0
   LineEnds (no q) k r after = r ≡ No q
-  LineEnds (yes e) k r after = (e.before ≡ k) × (r ≡ Yes (sizesOf e.problem)) × (after ≡ hold e.problem before)
+  LineEnds (yes e) k r after = (e.before ≡ k) × (r ≡ Yes (sizes_of e.problem)) × (after ≡ hold e.problem before)
 
   pub line-ends : (d : Draft) → Started d → (l : Line) (k : ℕ) (ns : List Number) → start_of d.before l ≡ yes (record { found = k; left = ns })
-      → (r : LineRead) (after : Arrays) → LineHeld k ns r (sizesOf d.problem) (hold d.problem before) after → LineEnds (readLine d l) k r after
+      → (r : LineRead) (after : Arrays) → LineHeld k ns r (sizes_of d.problem) (hold d.problem before) after → LineEnds (read_line d l) k r after
   line-ends d i l k ns e r after h =
-      rw (kind-found d l k ns e) (from (lineOfKind k d.problem ns) (kind-next before empty wide d i k ns r after h))
+      rw (kind-found d l k ns e) (from (line_of_kind k d.problem ns) (kind-next before empty wide d i k ns r after h))
     where
       from : (m : Asked Problem) → LineNext before empty wide m r after → LineEnds (m >>= λ p. yes (record { before = k; problem = p })) k r after
       from (no q) g = unfold ◌>>=◌ in g

@@ -2,8 +2,8 @@
 ghost use Rattle.std.specs.Prelude.{◌≡◌, ◌≤◌, drop};
 ghost use Rattle.definitions.specs.Questions.{read};
 ghost use Rattle.encoding.specs.Signs.{numbers};
-ghost use Rattle.encoding.specs.Encoding.{emptyIndex};
-ghost use Rattle.encoding.specs.Lent.{Leaves, lentArrays};
+ghost use Rattle.encoding.specs.Encoding.{empty_index};
+ghost use Rattle.encoding.specs.Lent.{Leaves, lent_arrays};
 ghost use Rattle.lines.specs.LineReads.{Ready};
 ghost use Rattle.sheet.specs.LineHolds.{LineHeld, SheetRead};
 
@@ -37,7 +37,7 @@ fn line_of_kind(
     index: &mut [u16; CODES],
 ) -> LineRead
     requires { (n ≤ 34) × Ready s arities.old index.old }
-    ensures { Leaves (LineHeld kind (drop 1 (numbers n row.now)) result s) (lentArrays arities rules starts literals table index) }
+    ensures { Leaves (LineHeld kind (drop 1 (numbers n row.now)) result s) (lent_arrays arities rules starts literals table index) }
 {
     if kind == 1 {
         return lines::constants_line(row, n, s);
@@ -65,8 +65,8 @@ pub fn read_sheet(
     table: &mut [u32; ATOMS],
     index: &mut [u16; CODES],
 ) -> Read
-    requires { index.old ≡ emptyIndex }
-    ensures { Leaves (SheetRead (read sheet.now) result) (lentArrays arities rules starts literals table index) }
+    requires { index.old ≡ empty_index }
+    ensures { Leaves (SheetRead (read sheet.now) result) (lent_arrays arities rules starts literals table index) }
 {
     if SHEET_BYTES < sheet.len() {
         return Read::Refused(Refusal { number: 2, line: 0 });

@@ -6,13 +6,13 @@ use Rattle.std.proofs.lemmas.Bool.{false≢true}
 use mathlib.Core.List.{List, [], ◌∷◌, ◌++◌}
 use Rattle.std.proofs.Math.ListN.{length}
 use Rattle.std.proofs.Math.Seq.{sets}
-use Rattle.definitions.specs.Bounds.{roomBytes, export_bytes}
+use Rattle.definitions.specs.Bounds.{room_bytes, export_bytes}
 use Rattle.definitions.specs.Lists.{joined}
 use Rattle.definitions.specs.Sheet.{plus}
 use Rattle.definitions.specs.Questions.{read}
-use Rattle.definitions.specs.Listing.{fieldBytes, lineBytes, narrow, refusalLine}
-use Rattle.definitions.specs.Call.{Result, refusal, ended, unended, lendings, result, answer_of, listingOf, written, printedOf, printed, printedPart}
-use Rattle.definitions.specs.Export.{exportLendings, exportResult, export_of, printedCnf}
+use Rattle.definitions.specs.Listing.{field_bytes, line_bytes, narrow, refusal_line}
+use Rattle.definitions.specs.Call.{Result, refusal, ended, unended, lendings, result, answer_of, listing_of, written, printed_of, printed, printed_part}
+use Rattle.definitions.specs.Export.{export_lendings, export_result, export_of, printed_cnf}
 use Rattle.definitions.specs.declared.Refusal.{Refusal}
 use Rattle.definitions.specs.declared.Counts.{Counts}
 use Rattle.definitions.specs.declared.Answer.{Answer}
@@ -26,15 +26,15 @@ use Rattle.column.specs.Widths.{narrow-length}
 use Rattle.listing.specs.Puts.{Put}
 
 -- three columns and LF
-pub refusal-length : (q n : ℕ) → length (refusalLine q n) ≡ 13
-unfolding refusalLine lineBytes joined plus
+pub refusal-length : (q n : ℕ) → length (refusal_line q n) ≡ 13
+unfolding refusal_line line_bytes joined plus
 refusal-length q n =
     let nine = narrow-length (plus 9) (λ e. absurd (false≢true e)) in
     let one = narrow-length (plus q) (λ e. absurd (false≢true e)) in
     let two = narrow-length (plus n) (λ e. absurd (false≢true e)) in
-    let f = fieldBytes (narrow (plus 9)) in
-    let g = fieldBytes (narrow (plus q)) in
-    let h = fieldBytes (narrow (plus n)) in
+    let f = field_bytes (narrow (plus 9)) in
+    let g = field_bytes (narrow (plus q)) in
+    let h = field_bytes (narrow (plus n)) in
     omega (arith, nine, one, two, length-append (f ++ (g ++ (h ++ []))) (10 ∷ []), length-append f (g ++ (h ++ [])), length-append g (h ++ []), length-append h [])
 
 refused-injective : {g h : Refusal} → Refused g ≡ Refused h → g ≡ h
@@ -43,17 +43,17 @@ refused-injective d = cc
 -- what is made of an answer, and nothing of a refusal
 module _ (made : Result → List ℕ) (nothing : (q n : ℕ) → made (refusal q n) ≡ []) where
   -- an answer is printed as it is made
-  answered-printed : (came : Result) (c : Counts) → answer_of came ≡ Answered c → printedOf made came ≡ made came
-  unfolding answer_of printedOf
+  answered-printed : (came : Result) (c : Counts) → answer_of came ≡ Answered c → printed_of made came ≡ made came
+  unfolding answer_of printed_of
   answered-printed (refusal q n) c e = apart (cc)
   answered-printed (ended v s) c e = refl
   answered-printed unended c e = refl
 
   -- a refusal is printed as a line of its own
   refused-printed : (came : Result) → (came ≡ unended → ⊥) → (f : Refusal) → answer_of came ≡ Refused f
-      → (printedOf made came ≡ refusalLine f.number f.line) × (made came ≡ [])
-  unfolding answer_of printedOf
-  refused-printed (refusal q n) ends f e = (ap (λ (x : Refusal). refusalLine x.number x.line) (refused-injective e), nothing q n)
+      → (printed_of made came ≡ refusal_line f.number f.line) × (made came ≡ [])
+  unfolding answer_of printed_of
+  refused-printed (refusal q n) ends f e = (ap (λ (x : Refusal). refusal_line x.number x.line) (refused-injective e), nothing q n)
   refused-printed (ended v s) ends f e = apart (cc)
   refused-printed unended ends f e = absurd (ends refl)
 
@@ -62,17 +62,17 @@ module _ (made : Result → List ℕ) (nothing : (q n : ℕ) → made (refusal q
       (its-answer : answer ≡ answer_of came) (its-size : size ≡ length (made came)) (stored : after ≡ written (made came) room) where
     -- the bytes are printed into the room
     abbrev pub PrintedInto : ℕ → List ℕ → Type 0
-    PrintedInto n last = (n ≡ length (printedOf made came)) × (last ≡ written (printedOf made came) room)
+    PrintedInto n last = (n ≡ length (printed_of made came)) × (last ≡ written (printed_of made came) room)
 
     pub print-answer : (c : Counts) → answer ≡ Answered c → PrintedInto size after
     print-answer c e =
-        let same : made came ≡ printedOf made came = sym (answered-printed came c (sym its-answer ∙ e)) in
+        let same : made came ≡ printed_of made came = sym (answered-printed came c (sym its-answer ∙ e)) in
         (its-size ∙ ap length same, stored ∙ ap (λ (bytes : List ℕ). written bytes room) same)
 
-    pub print-refusal : (f : Refusal) → answer ≡ Refused f → (n : ℕ) (last : List ℕ) → Put after 0 (refusalLine f.number f.line) n last → PrintedInto n last
+    pub print-refusal : (f : Refusal) → answer ≡ Refused f → (n : ℕ) (last : List ℕ) → Put after 0 (refusal_line f.number f.line) n last → PrintedInto n last
     unfolding written
     print-refusal f e n last put =
-        let bytes = refusalLine f.number f.line in
+        let bytes = refusal_line f.number f.line in
         let (prints, none) = refused-printed came ends f (sym its-answer ∙ e) in
         let unchanged : after ≡ room = stored ∙ ap (λ (x : List ℕ). written x room) none in
         let first = sets-front room bytes (omega (arith, refusal-length f.number f.line)) in
@@ -81,19 +81,19 @@ module _ (made : Result → List ℕ) (nothing : (q n : ℕ) → made (refusal q
 -- ── the two that are printed ──
 
 -- a refusal has no listing
-pub unlisted : (q n : ℕ) → listingOf (refusal q n) ≡ []
-unfolding listingOf
+pub unlisted : (q n : ℕ) → listing_of (refusal q n) ≡ []
+unfolding listing_of
 unlisted q n = refl
 
 -- where enough is lent, the program's result is the call's
-pub printed-result : (sheet : List ℕ) (budget : ℕ) (room : List ℕ) → roomBytes ≤ length room → printedPart sheet budget room ≡ printedOf listingOf (result sheet budget room)
+pub printed-result : (sheet : List ℕ) (budget : ℕ) (room : List ℕ) → room_bytes ≤ length room → printed_part sheet budget room ≡ printed_of listing_of (result sheet budget room)
 unfolding printed
-printed-result sheet budget room large = large-part sheet budget room large ∙ ap (printedOf listingOf) (sym (large-room sheet budget room large))
+printed-result sheet budget room large = large-part sheet budget room large ∙ ap (printed_of listing_of) (sym (large-room sheet budget room large))
 
-pub printed-export : (sheet : List ℕ) (budget : ℕ) (room export : List ℕ) → roomBytes ≤ length room → export_bytes ≤ length export
-    → printedCnf sheet budget ≡ printedOf (export_of (read sheet)) (exportResult sheet budget room export)
-unfolding printedCnf
-printed-export sheet budget room export large wide = ap (printedOf (export_of (read sheet))) (sym (enough-lent sheet budget room export large wide))
+pub printed-export : (sheet : List ℕ) (budget : ℕ) (room export : List ℕ) → room_bytes ≤ length room → export_bytes ≤ length export
+    → printed_cnf sheet budget ≡ printed_of (export_of (read sheet)) (export_result sheet budget room export)
+unfolding printed_cnf
+printed-export sheet budget room export large wide = ap (printed_of (export_of (read sheet))) (sym (enough-lent sheet budget room export large wide))
 
 -- equal bytes are printed alike
 pub printed-alike : (room : List ℕ) {bytes same : List ℕ} {n : ℕ} {last : List ℕ} → bytes ≡ same → (n ≡ length same) × (last ≡ written same room) → (n ≡ length bytes) × (last ≡ written bytes room)
@@ -103,6 +103,6 @@ pub result-ends : (sheet : List ℕ) (budget : ℕ) (room : List ℕ) → result
 unfolding result
 result-ends sheet budget room = call-comes-to-an-end (lendings (length room)) sheet budget
 
-pub export-ends : (sheet : List ℕ) (budget : ℕ) (room export : List ℕ) → exportResult sheet budget room export ≡ unended → ⊥
-unfolding exportResult
-export-ends sheet budget room export = call-comes-to-an-end (exportLendings (length room) (length export)) sheet budget
+pub export-ends : (sheet : List ℕ) (budget : ℕ) (room export : List ℕ) → export_result sheet budget room export ≡ unended → ⊥
+unfolding export_result
+export-ends sheet budget room export = call-comes-to-an-end (export_lendings (length room) (length export)) sheet budget

@@ -1,13 +1,13 @@
 // The questions about what is lent, in their order.
-ghost use Rattle.definitions.specs.Call.{lendings, firstShort};
-ghost use Rattle.definitions.specs.Export.{exportLendings};
+ghost use Rattle.definitions.specs.Call.{lendings, first_short};
+ghost use Rattle.definitions.specs.Export.{export_lendings};
 ghost use Rattle.solver.specs.Lent.{ShortIs};
 
 use crate::{EXPORT_ROOM, ROOM};
 
 // The number of the first question that is answered no, or 0.
 pub fn first_short(room: usize) -> u8
-    ensures { ShortIs (firstShort (lendings room)) result }
+    ensures { ShortIs (first_short (lendings room)) result }
 {
     if room < ROOM {
         return 1;
@@ -17,7 +17,7 @@ pub fn first_short(room: usize) -> u8
 
 // The same for an export, which is lent a room of its own besides.
 pub fn first_short_export(room: usize, cnf: usize) -> u8
-    ensures { ShortIs (firstShort (exportLendings room cnf)) result }
+    ensures { ShortIs (first_short (export_lendings room cnf)) result }
 {
     let number = first_short(room);
     if number != 0 {

@@ -8,7 +8,7 @@ use Rattle.std.proofs.Math.Option.{none, some}
 use mathlib.Core.List.Memᴰ
 use Rattle.definitions.specs.Lists.{◌∈◌}
 use Rattle.definitions.specs.Instances.{Instance, Task}
-use Rattle.definitions.specs.Search.{Logged, State, start, conflict, force, nextAct, nextInstance, loggedOf, nextGoal, backtrack, setUnit, logInstance, decide, afterConflict, Outcome, more, done, enough, searchTask}
+use Rattle.definitions.specs.Search.{Logged, State, start, conflict, force, next_act, next_instance, logged_of, next_goal, backtrack, set_unit, log_instance, decide, after_conflict, Outcome, more, done, enough, search_task}
 use Rattle.definitions.specs.declared.Verdict.{Verdict}
 use Rattle.definitions.specs.declared.Verdict.TheVariants.{Unsat, Unknown, Spent, Full}
 use Rattle.theory.specs.SearchLaws.{fired}
@@ -22,12 +22,12 @@ abbrev pub LogsOk : Task → State → Type 0
 LogsOk k s = (g : Logged) → g ∈ s.log → LogOk k g
 
 module _ (k : Task) (s : State) where
-  log-ok : (i : Instance) → nextInstance k s ≡ some i → LogOk k (loggedOf s.trail i)
-  unfolding loggedOf
+  log-ok : (i : Instance) → next_instance k s ≡ some i → LogOk k (logged_of s.trail i)
+  unfolding logged_of
   log-ok i e = let f = fired k s i e in record { its = f.its; taken = λ l q. (f.taken l q).0; bodiless = f.bodiless }
 
-  log-more : (g : Logged) → LogsOk k s → LogOk k g → LogsOk k (logInstance s g)
-  unfolding logInstance
+  log-more : (g : Logged) → LogsOk k s → LogOk k g → LogsOk k (log_instance s g)
+  unfolding log_instance
   log-more g ok new x m =
       elim (Memᴰ.append_cases s.log m) [
         | inl n ↦ ok x n
@@ -39,11 +39,11 @@ module _ (k : Task) (s : State) where
   Grown u = ((g : Logged) → g ∈ s.log → g ∈ u.log) × LogsOk k u
 
   step-log : (budget : ℕ) → LogsOk k s → (o : Outcome) → Step k budget s o → After Grown (λ v u. Grown u) o
-  unfolding setUnit logInstance decide afterConflict
+  unfolding set_unit log_instance decide after_conflict
   step-log budget ok o (unit l a) = (λ g m. m, ok)
   step-log budget ok o (undone t a e) = (λ g m. m, ok)
   step-log budget ok o (refuted a e) = (λ g m. m, ok)
-  step-log budget ok o (logs i a e h) = (λ g m. Memᴰ.append_left (loggedOf s.trail i ∷ []) m, log-more (loggedOf s.trail i) ok (log-ok i e))
+  step-log budget ok o (logs i a e h) = (λ g m. Memᴰ.append_left (logged_of s.trail i ∷ []) m, log-more (logged_of s.trail i) ok (log-ok i e))
   step-log budget ok o (overflows i a e h) = (λ g m. m, ok)
   step-log budget ok o (decides a n m e h) = (λ g m. m, ok)
   step-log budget ok o (overspends a n m e h) = (λ g m. m, ok)
@@ -54,11 +54,11 @@ module _ (k : Task) (s : State) where
 module _ (k : Task) (W : World) where
   pub record Inv (s : State) : Type 0 where
     pub trailed : Ok k W s.trail
-    pub logOk : LogsOk k s
+    pub log_ok : LogsOk k s
 
   pub start-inv : Inv (start k)
   unfolding start
-  start-inv = record { trailed = bare; logOk = λ g m. absurd (Memᴰ.not-nil m) }
+  start-inv = record { trailed = bare; log_ok = λ g m. absurd (Memᴰ.not-nil m) }
 
   -- candidates have to obey the log of the state
   abbrev pub Obeyed : State → Type 0
@@ -67,7 +67,7 @@ module _ (k : Task) (W : World) where
   -- what UNSAT tells of the candidates, and UNKNOWN of the state
   abbrev pub Tells : Verdict → State → Type 0
   Tells Unsat s = (x : W.Candidate) → W.out x
-  Tells Unknown s = (nextAct k s ≡ none) × (nextInstance k s ≡ none) × (nextGoal k s ≡ none)
+  Tells Unknown s = (next_act k s ≡ none) × (next_instance k s ≡ none) × (next_goal k s ≡ none)
   Tells Spent s = Unit {0}
   Tells Full s = Unit {0}
 
@@ -77,12 +77,12 @@ module _ (k : Task) (W : World) where
 
   module _ (laws : Laws k W) where
     module _ (budget : ℕ) (s : State) (obeyed : Obeyed s) (v : Inv s) where
-      backtracked : nextAct k s ≡ some conflict → BacktrackOk k W (backtrack s.trail)
-      backtracked a = backtrack-ok k W laws v.trailed (act-ok k W laws s v.trailed v.logOk obeyed conflict a)
+      backtracked : next_act k s ≡ some conflict → BacktrackOk k W (backtrack s.trail)
+      backtracked a = backtrack-ok k W laws v.trailed (act-ok k W laws s v.trailed v.log_ok obeyed conflict a)
 
       step-trail : (o : Outcome) → Step k budget s o → After (λ u. Ok k W u.trail) (λ w u. Ok k W u.trail × Tells w u) o
-      unfolding setUnit logInstance decide afterConflict
-      step-trail o (unit l a) = unit-next k W (act-ok k W laws s v.trailed v.logOk obeyed (force l) a) v.trailed
+      unfolding set_unit log_instance decide after_conflict
+      step-trail o (unit l a) = unit-next k W (act-ok k W laws s v.trailed v.log_ok obeyed (force l) a) v.trailed
       step-trail o (undone t a e) = subst (BacktrackOk k W) e (backtracked a)
       step-trail o (refuted a e) = (v.trailed, subst (BacktrackOk k W) e (backtracked a))
       step-trail o (logs i a e h) = v.trailed
@@ -92,10 +92,10 @@ module _ (k : Task) (W : World) where
       step-trail o (rests n m e) = (v.trailed, (n, m, e))
 
       pub step-inv : (o : Outcome) → Step k budget s o → After Inv InvTells o
-      step-inv (more u) d = record { trailed = step-trail (more u) d; logOk = (step-log k s budget v.logOk (more u) d).1 }
+      step-inv (more u) d = record { trailed = step-trail (more u) d; log_ok = (step-log k s budget v.log_ok (more u) d).1 }
       step-inv (done w u) d =
           let (trailed, tells) = step-trail (done w u) d in
-          (record { trailed = trailed; logOk = (step-log k s budget v.logOk (done w u) d).1 }, tells)
+          (record { trailed = trailed; log_ok = (step-log k s budget v.log_ok (done w u) d).1 }, tells)
 
     -- ── a search ──
 
@@ -115,7 +115,7 @@ module _ (k : Task) (W : World) where
         let (kept, more-ok) = step-log k s budget ok (done w u) d in
         (more-ok, λ obeyed. let now : Obeyed s = λ g m. obeyed g (kept g m) in step-inv budget s now (inv now) (done w u) d)
 
-    pub search-inv : (budget : ℕ) (v : Verdict) (s : State) → searchTask k budget ≡ done v s → LogsOk k s × (Obeyed s → InvTells v s)
-    unfolding searchTask
+    pub search-inv : (budget : ℕ) (v : Verdict) (s : State) → search_task k budget ≡ done v s → LogsOk k s × (Obeyed s → InvTells v s)
+    unfolding search_task
     search-inv budget v s e =
-        subst (After Follows FollowsTells) e (run-keeps k budget Follows FollowsTells (step_follows budget) (enough budget) (start k) (start-inv.logOk, λ obeyed. start-inv))
+        subst (After Follows FollowsTells) e (run-keeps k budget Follows FollowsTells (step_follows budget) (enough budget) (start k) (start-inv.log_ok, λ obeyed. start-inv))

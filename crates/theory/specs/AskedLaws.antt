@@ -9,11 +9,11 @@ use Rattle.std.proofs.Math.Dec.{leb}
 use Rattle.std.proofs.Math.ListN.{get_or-append}
 use borrow.Author.Tests.{eqb-true, eqb-false, leb-true, le-leb, not-true}
 use Rattle.definitions.specs.Lists.{is_empty}
-use Rattle.definitions.specs.Bounds.{sheetBytes, longestLine}
-use Rattle.definitions.specs.Words.{constant, Rule, TwoWay, RuleLine, oneWay, twoWay, Problem}
+use Rattle.definitions.specs.Bounds.{sheet_bytes, longest_line}
+use Rattle.definitions.specs.Words.{constant, Rule, TwoWay, RuleLine, one_way, two_way, Problem}
 use Rattle.definitions.specs.Sheet.{lines, Number, plus}
-use Rattle.definitions.specs.Questions.{Asked, no, yes, ◌>>=◌, ◌>>◌, ask, Parsed, within, count, rank, kind_of, ruleArgument, clauseArgument, arguments, literal, literals, patternOf, literalOf, patterns, clauseLiterals, ruleCounts, ruleBehind, twoWayCounts, twoWayBehind, clauseBehind, readClause, goodLength, accepted, readLines, emptyDraft, read}
-use Rattle.definitions.specs.Sheets.{Row, isKind}
+use Rattle.definitions.specs.Questions.{Asked, no, yes, ◌>>=◌, ◌>>◌, ask, Parsed, within, count, rank, kind_of, rule_argument, clause_argument, arguments, literal, literals, pattern_of, literal_of, patterns, clause_literals, rule_counts, rule_behind, two_way_counts, two_way_behind, clause_behind, read_clause, good_length, accepted, read_lines, empty_draft, read}
+use Rattle.definitions.specs.Sheets.{Row, is_kind}
 use Rattle.theory.specs.Tests.{by-test, apart, and_left, and_right, and_intro}
 
 -- ── every question of an accepted chain is answered yes ──
@@ -84,20 +84,20 @@ module _ {A : Type 0} (P : ℕ → Type 0) where
 
 -- an accepted sheet is not too long and not empty, and its lines are accepted
 pub accepted-read : (sheet : List ℕ) (p : Problem) → read sheet ≡ accepted p
-    → (length sheet ≤ sheetBytes) × (is_empty sheet ≡ false) × (readLines emptyDraft 1 (lines sheet) ≡ accepted p)
+    → (length sheet ≤ sheet_bytes) × (is_empty sheet ≡ false) × (read_lines empty_draft 1 (lines sheet) ≡ accepted p)
 unfolding read
 accepted-read sheet p e =
-    by-test (leb (length sheet) sheetBytes)
-    (λ short. by-test (is_empty sheet) (λ empty. apart (cc)) (λ full. (leb-true (length sheet) sheetBytes short, full, (cc))))
+    by-test (leb (length sheet) sheet_bytes)
+    (λ short. by-test (is_empty sheet) (λ empty. apart (cc)) (λ full. (leb-true (length sheet) sheet_bytes short, full, (cc))))
     (λ long. apart (cc))
 
 -- what question 5 says of a length
-pub good_length : (n : ℕ) → goodLength n ≡ true → (4 ≤ n) × (n ≤ longestLine) × (n % 4 ≡ 0)
-unfolding goodLength
-good_length n good =
-    let between = and_left (leb 4 n && leb n longestLine) _ good in
-    let whole = and_right (leb 4 n && leb n longestLine) _ good in
-    (leb-true 4 n (and_left (leb 4 n) _ between), leb-true n longestLine (and_right (leb 4 n) _ between), eqb-true (n % 4) 0 whole)
+pub good_length_lem : (n : ℕ) → good_length n ≡ true → (4 ≤ n) × (n ≤ longest_line) × (n % 4 ≡ 0)
+unfolding good_length
+good_length_lem n good =
+    let between = and_left (leb 4 n && leb n longest_line) _ good in
+    let whole = and_right (leb 4 n && leb n longest_line) _ good in
+    (leb-true 4 n (and_left (leb 4 n) _ between), leb-true n longest_line (and_right (leb 4 n) _ between), eqb-true (n % 4) 0 whole)
 
 -- ranks: 3 for kind 8, the kind for any other
 pub rank-8 : (k : ℕ) → ((k ≡ 8) × (rank k ≡ 3)) ⊎ ((k ≡ 8 → ⊥) × (rank k ≡ k))
@@ -227,73 +227,73 @@ leb-accepts s c d h t = le-leb s d (omega (arith, h, leb-true s c t))
 and-accepts : (a b c : Bool) → (b ≡ true → c ≡ true) → (a && b) ≡ true → (a && c) ≡ true
 and-accepts a b c h t = and_intro a c (and_left a b t) (h (and_right a b t))
 
-ruleArgument-accepts : (c d : ℕ) → c ≤ d → (n : Number) → Accepts (ruleArgument c n) (ruleArgument d n)
-unfolding ruleArgument
-ruleArgument-accepts c d h n a e =
+rule_argument-accepts : (c d : ℕ) → c ≤ d → (n : Number) → Accepts (rule_argument c n) (rule_argument d n)
+unfolding rule_argument
+rule_argument-accepts c d h n a e =
     by-test n.negative
     (λ s.
     let old : (ask 10 (leb 1 n.size && leb n.size c) >> yes (constant n.size)) ≡ yes a = cc in
     cc (ask-accepts 10 (and-accepts (leb 1 n.size) (leb n.size c) (leb n.size d) (leb-accepts n.size c d h)) (λ t a e. e) a old))
     (λ s. cc)
 
-clauseArgument-accepts : (c d : ℕ) → c ≤ d → (n : Number) → Accepts (clauseArgument c n) (clauseArgument d n)
-unfolding clauseArgument within
-clauseArgument-accepts c d h n =
+clause_argument-accepts : (c d : ℕ) → c ≤ d → (n : Number) → Accepts (clause_argument c n) (clause_argument d n)
+unfolding clause_argument within
+clause_argument-accepts c d h n =
     ask-accepts 10
     (and-accepts (not n.negative && leb 1 n.size) (leb n.size c) (leb n.size d) (leb-accepts n.size c d h))
     (λ t a e. e)
 
 -- the rule, the two-way rule and the clause of the columns behind the kind, without question 9
-unfoldable pub readRule : ℕ → List ℕ → List Number → Asked Rule
-readRule constants arities ns = ruleCounts ns >>= ruleBehind constants arities
+unfoldable pub read_rule : ℕ → List ℕ → List Number → Asked Rule
+read_rule constants arities ns = rule_counts ns >>= rule_behind constants arities
 
-unfoldable pub readTwoWay : ℕ → List ℕ → List Number → Asked TwoWay
-readTwoWay constants arities ns = twoWayCounts ns >>= twoWayBehind constants arities
+unfoldable pub read_two_way : ℕ → List ℕ → List Number → Asked TwoWay
+read_two_way constants arities ns = two_way_counts ns >>= two_way_behind constants arities
 
 -- a row of kind 3 or 8, its kind included
-unfoldable pub isRuleRow : Row → Bool
-isRuleRow r = isKind 3 r || isKind 8 r
+unfoldable pub is_rule_row : Row → Bool
+is_rule_row r = is_kind 3 r || is_kind 8 r
 
-unfoldable pub readRuleLine : ℕ → List ℕ → Row → Asked RuleLine
-readRuleLine constants arities row =
-    elim (isKind 3 row) [
-      | true ↦ readRule constants arities (drop 1 row) >>= λ r. yes (oneWay r)
-      | false ↦ readTwoWay constants arities (drop 1 row) >>= λ t. yes (twoWay t)
+unfoldable pub read_rule_line : ℕ → List ℕ → Row → Asked RuleLine
+read_rule_line constants arities row =
+    elim (is_kind 3 row) [
+      | true ↦ read_rule constants arities (drop 1 row) >>= λ r. yes (one_way r)
+      | false ↦ read_two_way constants arities (drop 1 row) >>= λ t. yes (two_way t)
     ]
 
 -- a line reads the same with more constants and with more symbols behind those that there are
 module _ (constants more : ℕ) (arities others : List ℕ) (h : constants ≤ more) where
   patterns-accepts : (k : ℕ) (ns : List Number) → Accepts (patterns constants arities k ns) (patterns more (arities ++ others) k ns)
   unfolding patterns
-  patterns-accepts = literals-accepts (ruleArgument constants) (ruleArgument more) (ruleArgument-accepts constants more h) patternOf arities others
+  patterns-accepts = literals-accepts (rule_argument constants) (rule_argument more) (rule_argument-accepts constants more h) pattern_of arities others
 
-  pub readRule-accepts : (ns : List Number) → Accepts (readRule constants arities ns) (readRule more (arities ++ others) ns)
-  unfolding readRule ruleBehind
-  readRule-accepts ns =
+  pub read_rule-accepts : (ns : List Number) → Accepts (read_rule constants arities ns) (read_rule more (arities ++ others) ns)
+  unfolding read_rule rule_behind
+  read_rule-accepts ns =
       bind-accepts (λ w e. e)
       (λ counts. bind-accepts (patterns-accepts counts.found.heads counts.left)
       (λ heads. bind-accepts (patterns-accepts counts.found.body heads.left) (λ body r e. e)))
 
-  pub readTwoWay-accepts : (ns : List Number) → Accepts (readTwoWay constants arities ns) (readTwoWay more (arities ++ others) ns)
-  unfolding readTwoWay twoWayBehind
-  readTwoWay-accepts ns =
+  pub read_two_way-accepts : (ns : List Number) → Accepts (read_two_way constants arities ns) (read_two_way more (arities ++ others) ns)
+  unfolding read_two_way two_way_behind
+  read_two_way-accepts ns =
       bind-accepts (λ w e. e)
       (λ counts. bind-accepts (patterns-accepts counts.found.kept counts.left)
       (λ kept. bind-accepts (patterns-accepts counts.found.rewritten kept.left)
       (λ rewritten. bind-accepts (patterns-accepts counts.found.body rewritten.left) (λ body t e. e))))
 
-  pub readRuleLine-accepts : (row : Row) → Accepts (readRuleLine constants arities row) (readRuleLine more (arities ++ others) row)
-  unfolding readRuleLine
-  readRuleLine-accepts row =
-      by-test (isKind 3 row)
-      (λ k. rw (k, readRuleLine) (bind-accepts (readRule-accepts (drop 1 row)) (λ r l e. e)))
-      (λ k. rw (k, readRuleLine) (bind-accepts (readTwoWay-accepts (drop 1 row)) (λ t l e. e)))
+  pub read_rule_line-accepts : (row : Row) → Accepts (read_rule_line constants arities row) (read_rule_line more (arities ++ others) row)
+  unfolding read_rule_line
+  read_rule_line-accepts row =
+      by-test (is_kind 3 row)
+      (λ k. rw (k, read_rule_line) (bind-accepts (read_rule-accepts (drop 1 row)) (λ r l e. e)))
+      (λ k. rw (k, read_rule_line) (bind-accepts (read_two_way-accepts (drop 1 row)) (λ t l e. e)))
 
-  pub readClause-accepts : (ns : List Number) → Accepts (readClause constants arities ns) (readClause more (arities ++ others) ns)
-  unfolding readClause clauseBehind
-  readClause-accepts ns =
+  pub read_clause-accepts : (ns : List Number) → Accepts (read_clause constants arities ns) (read_clause more (arities ++ others) ns)
+  unfolding read_clause clause_behind
+  read_clause-accepts ns =
       bind-accepts (λ w e. e)
-      (λ literalCount. bind-accepts (walk literalCount.found literalCount.left) (λ c r e. e))
+      (λ literal_count. bind-accepts (walk literal_count.found literal_count.left) (λ c r e. e))
     where
-      walk : (k : ℕ) (ns : List Number) → Accepts (clauseLiterals constants arities k ns) (clauseLiterals more (arities ++ others) k ns)
-      walk = unfold clauseLiterals in literals-accepts (clauseArgument constants) (clauseArgument more) (clauseArgument-accepts constants more h) literalOf arities others
+      walk : (k : ℕ) (ns : List Number) → Accepts (clause_literals constants arities k ns) (clause_literals more (arities ++ others) k ns)
+      walk = unfold clause_literals in literals-accepts (clause_argument constants) (clause_argument more) (clause_argument-accepts constants more h) literal_of arities others

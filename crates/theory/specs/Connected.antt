@@ -6,8 +6,8 @@ use Rattle.std.proofs.Math.Bool.{false}
 use mathlib.Core.List.{List, [], ◌∷◌, ◌++◌, append-nil, append_assoc}
 use Rattle.definitions.specs.Lists.{◌∈◌, is_empty, any}
 use Rattle.definitions.specs.Words.{Term, variable, constant, Pattern, Rule, Problem}
-use Rattle.definitions.specs.Instances.{occursIn}
-use Rattle.definitions.specs.Questions.{is_shared, linked, eachLinked, connected, accepted, read}
+use Rattle.definitions.specs.Instances.{occurs_in}
+use Rattle.definitions.specs.Questions.{is_shared, linked, each_linked, connected, accepted, read}
 use Rattle.definitions.specs.Sheets.{HeadAmong, Shares, Apart}
 use Rattle.theory.specs.Tests.{by-test, apart, true-and-false, and_left, and_right, or_cases, or_right}
 use Rattle.theory.specs.ListLaws.{empty-nil, any_some, any_none}
@@ -33,9 +33,9 @@ module _ {r : Rule} (h : HeadAmong r) where
 -- ── a head that is linked ──
 
 -- each of a list of heads is, to those passed before the list and those beside it
-each-linked : (passed before : List Pattern) (x : Pattern) (behind : List Pattern) → eachLinked passed (before ++ x ∷ behind) ≡ true
+each-linked : (passed before : List Pattern) (x : Pattern) (behind : List Pattern) → each_linked passed (before ++ x ∷ behind) ≡ true
     → linked ((passed ++ before) ++ behind) x ≡ true
-unfolding eachLinked
+unfolding each_linked
 each-linked passed [] x behind e = rw append-nil (and_left (linked (passed ++ behind) x) _ e)
 each-linked passed (b ∷ before) x behind e =
     rw (← (append_assoc passed (b ∷ []) before)) (each-linked (passed ++ (b ∷ [])) before x behind (and_right (linked (passed ++ (before ++ x ∷ behind)) b) _ e))
@@ -45,7 +45,7 @@ pub connected-heads : (sheet : List ℕ) (p : Problem) → read sheet ≡ accept
 unfolding connected
 connected-heads sheet p reads r m h =
     linked-shares h
-    (each-linked [] h.before h.head h.behind (ap (eachLinked []) (sym h.heads) ∙ ((accepted-limits sheet p reads).eachRule r m).isConnected))
+    (each-linked [] h.before h.head h.behind (ap (each_linked []) (sym h.heads) ∙ ((accepted-limits sheet p reads).each_rule r m).is_connected))
 
 -- ── a head that is apart ──
 
@@ -57,8 +57,8 @@ record Unlinked (passed heads : List Pattern) : Type 0 where
   pub split : heads ≡ before ++ head ∷ behind
   pub unlinked : linked ((passed ++ before) ++ behind) head ≡ false
 
-some-unlinked : (passed heads : List Pattern) → eachLinked passed heads ≡ false → Unlinked passed heads
-unfolding eachLinked
+some-unlinked : (passed heads : List Pattern) → each_linked passed heads ≡ false → Unlinked passed heads
+unfolding each_linked
 some-unlinked passed [] e = apart cc
 some-unlinked passed (x ∷ behind) e =
     by-test (linked (passed ++ behind) x)
@@ -78,7 +78,7 @@ module _ (others : List Pattern) (x : Pattern) (e : linked others x ≡ false) w
   unfolding linked is_empty
   others-some n = let z : linked [] x ≡ false = rw n at e in apart cc
 
-  none-shared : (v : ℕ) → variable v ∈ x.terms → occursIn others v ≡ false
+  none-shared : (v : ℕ) → variable v ∈ x.terms → occurs_in others v ≡ false
   unfolding linked is_shared
   none-shared v m =
       by-test (any (is_shared others) x.terms)

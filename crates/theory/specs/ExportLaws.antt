@@ -8,13 +8,13 @@ use mathlib.Core.List.{List, []}
 use Rattle.std.proofs.Math.ListN.{length}
 use Rattle.std.proofs.Math.Seq.{take-append_seam}
 use borrow.Author.Tests.{le-leb, lt-leb, leb-true, leb-false}
-use Rattle.definitions.specs.Bounds.{roomBytes, export_bytes}
+use Rattle.definitions.specs.Bounds.{room_bytes, export_bytes}
 use Rattle.definitions.specs.Words.{Problem}
 use Rattle.definitions.specs.Questions.{yes, Reading, refused, accepted, read}
 use Rattle.definitions.specs.Search.{State, done, search}
-use Rattle.definitions.specs.Dimacs.{cnfOf, cnfText, readCnf}
-use Rattle.definitions.specs.Call.{Result, refusal, ended, searched, answered, lendings, firstShort, afterLending, result, answer_of, listingOf, written, call, roomAfter, printedOf, values, Prints}
-use Rattle.definitions.specs.Export.{exportLendings, exportResult, export_of, exportCall, exportText, roomAfterExport, exportAfter, printedCnf, ExportRefused, Exports, ExportComes, roomTooSmall, exportTooSmall, improperSheet, properSheet}
+use Rattle.definitions.specs.Dimacs.{cnf_of, cnf_text, read_cnf}
+use Rattle.definitions.specs.Call.{Result, refusal, ended, searched, answered, lendings, first_short, after_lending, result, answer_of, listing_of, written, call, room_after, printed_of, values, Prints}
+use Rattle.definitions.specs.Export.{export_lendings, export_result, export_of, export_call, export_text, room_after_export, export_after, printed_cnf, ExportRefused, Exports, ExportComes, room_too_small, export_too_small, improper_sheet, proper_sheet}
 use Rattle.definitions.specs.declared.Verdict.{Verdict}
 use Rattle.theory.specs.Tests.{by-test}
 use Rattle.theory.specs.Theorems.{search-comes-to-an-answer}
@@ -22,17 +22,17 @@ use Rattle.theory.specs.CallLaws.{large-room, prints}
 use Rattle.theory.specs.Exports.{export-round-trip}
 
 -- the questions about what is lent
-pub short-listing : (room export : ℕ) → room < roomBytes → firstShort (exportLendings room export) ≡ some 1
-unfolding exportLendings lendings firstShort
-short-listing room export h = rw (lt-leb roomBytes room h, firstShort)
+pub short-listing : (room export : ℕ) → room < room_bytes → first_short (export_lendings room export) ≡ some 1
+unfolding export_lendings lendings first_short
+short-listing room export h = rw (lt-leb room_bytes room h, first_short)
 
-pub short-export : (room export : ℕ) → roomBytes ≤ room → export < export_bytes → firstShort (exportLendings room export) ≡ some 15
-unfolding exportLendings lendings firstShort
-short-export room export h g = rw (le-leb roomBytes room h, lt-leb export_bytes export g, firstShort)
+pub short-export : (room export : ℕ) → room_bytes ≤ room → export < export_bytes → first_short (export_lendings room export) ≡ some 15
+unfolding export_lendings lendings first_short
+short-export room export h g = rw (le-leb room_bytes room h, lt-leb export_bytes export g, first_short)
 
-pub enough-rooms : (room export : ℕ) → roomBytes ≤ room → export_bytes ≤ export → firstShort (exportLendings room export) ≡ none
-unfolding exportLendings lendings firstShort
-enough-rooms room export h g = rw (le-leb roomBytes room h, le-leb export_bytes export g, firstShort)
+pub enough-rooms : (room export : ℕ) → room_bytes ≤ room → export_bytes ≤ export → first_short (export_lendings room export) ≡ none
+unfolding export_lendings lendings first_short
+enough-rooms room export h g = rw (le-leb room_bytes room h, le-leb export_bytes export g, first_short)
 
 -- a refusal has no text, and an answer that of its search
 pub refused-text : (r : Reading) (q n : ℕ) → export_of r (refusal q n) ≡ []
@@ -42,57 +42,57 @@ refused-text (accepted p) q n = refl
 
 module _ (sheet : List ℕ) (budget : ℕ) (room export : List ℕ) where
   -- question 1
-  pub small-listing-room : length room < roomBytes → exportResult sheet budget room export ≡ refusal 1 0
-  unfolding exportResult afterLending
-  small-listing-room h = rw (short-listing (length room) (length export) h, exportResult, afterLending)
+  pub small-listing-room : length room < room_bytes → export_result sheet budget room export ≡ refusal 1 0
+  unfolding export_result after_lending
+  small-listing-room h = rw (short-listing (length room) (length export) h, export_result, after_lending)
 
   -- question 15
-  pub small-export-room : roomBytes ≤ length room → length export < export_bytes → exportResult sheet budget room export ≡ refusal 15 0
-  unfolding exportResult afterLending
-  small-export-room h g = rw (short-export (length room) (length export) h g, exportResult, afterLending)
+  pub small-export-room : room_bytes ≤ length room → length export < export_bytes → export_result sheet budget room export ≡ refusal 15 0
+  unfolding export_result after_lending
+  small-export-room h g = rw (short-export (length room) (length export) h g, export_result, after_lending)
 
-  pub enough-lent : roomBytes ≤ length room → export_bytes ≤ length export
-      → exportResult sheet budget room export ≡ answered (read sheet) budget
-  unfolding exportResult afterLending
-  enough-lent h g = rw (enough-rooms (length room) (length export) h g, exportResult, afterLending)
+  pub enough-lent : room_bytes ≤ length room → export_bytes ≤ length export
+      → export_result sheet budget room export ≡ answered (read sheet) budget
+  unfolding export_result after_lending
+  enough-lent h g = rw (enough-rooms (length room) (length export) h g, export_result, after_lending)
 
   -- ── what it comes to ──
 
   pub text-of-answer : (p : Problem) → read sheet ≡ accepted p → (v : Verdict) (s : State)
-      → exportResult sheet budget room export ≡ ended v s → exportText sheet budget room export ≡ cnfText (cnfOf p.clauses s)
-  unfolding exportText export_of
+      → export_result sheet budget room export ≡ ended v s → export_text sheet budget room export ≡ cnf_text (cnf_of p.clauses s)
+  unfolding export_text export_of
   text-of-answer p d v s e = cc
 
-  export-refused : (question line : ℕ) → exportResult sheet budget room export ≡ refusal question line
+  export-refused : (question line : ℕ) → export_result sheet budget room export ≡ refusal question line
       → ExportRefused sheet budget room export question line
-  unfolding exportCall roomAfterExport exportAfter answer_of listingOf written values
+  unfolding export_call room_after_export export_after answer_of listing_of written values
   export-refused question line e =
       record {
-        handedBack = ap answer_of e;
+        handed_back = ap answer_of e;
         numbers = ap (λ (r : Result). values (answer_of r)) e;
-        noText = no_text;
-        unchanged = ap (λ (r : Result). written (listingOf r) room) e;
-        exportUnchanged = ap (λ t. written t export) no_text;
+        no_text = no_text;
+        unchanged = ap (λ (r : Result). written (listing_of r) room) e;
+        export_unchanged = ap (λ t. written t export) no_text;
       }
     where
-      no_text : exportText sheet budget room export ≡ []
-      no_text = unfold exportText in ap (export_of (read sheet)) e ∙ refused-text (read sheet) question line
+      no_text : export_text sheet budget room export ≡ []
+      no_text = unfold export_text in ap (export_of (read sheet)) e ∙ refused-text (read sheet) question line
 
   export-answered : (p : Problem) → read sheet ≡ accepted p → (v : Verdict) (s : State)
-      → exportResult sheet budget room export ≡ ended v s → Exports sheet budget room export p v s
-  unfolding exportCall roomAfterExport exportAfter answer_of listingOf written values
+      → export_result sheet budget room export ≡ ended v s → Exports sheet budget room export p v s
+  unfolding export_call room_after_export export_after answer_of listing_of written values
   export-answered p d v s e =
       record {
-        handedBack = ap answer_of e;
+        handed_back = ap answer_of e;
         numbers = ap (λ (r : Result). values (answer_of r)) e;
         text = text-of-answer p d v s e;
-        front = ap (λ (r : Result). written (listingOf r) room) e;
-        exportFront = ap (λ t. written t export) (text-of-answer p d v s e);
+        front = ap (λ (r : Result). written (listing_of r) room) e;
+        export_front = ap (λ t. written t export) (text-of-answer p d v s e);
       }
 
   -- where both rooms are large enough, the result of the sheet that was read
-  pub result-of-search : (p : Problem) → read sheet ≡ accepted p → roomBytes ≤ length room → export_bytes ≤ length export
-      → (v : Verdict) (s : State) → search p budget ≡ done v s → exportResult sheet budget room export ≡ ended v s
+  pub result-of-search : (p : Problem) → read sheet ≡ accepted p → room_bytes ≤ length room → export_bytes ≤ length export
+      → (v : Verdict) (s : State) → search p budget ≡ done v s → export_result sheet budget room export ≡ ended v s
   unfolding answered searched
   result-of-search p d large wide v s e = enough-lent large wide ∙ ap (λ (x : Reading). answered x budget) d ∙ ap searched e
 
@@ -100,59 +100,59 @@ module _ (sheet : List ℕ) (budget : ℕ) (room export : List ℕ) where
   pub export-comes : ExportComes sheet budget room export
   unfolding answered
   export-comes =
-      by-test (leb roomBytes (length room))
-      (λ e. from-export (leb-true roomBytes (length room) e))
-      (λ e. let h = leb-false roomBytes (length room) e in roomTooSmall h (export-refused 1 0 (small-listing-room h)))
+      by-test (leb room_bytes (length room))
+      (λ e. from-export (leb-true room_bytes (length room) e))
+      (λ e. let h = leb-false room_bytes (length room) e in room_too_small h (export-refused 1 0 (small-listing-room h)))
     where
-      from-reading : roomBytes ≤ length room → export_bytes ≤ length export → (r : Reading) → read sheet ≡ r
+      from-reading : room_bytes ≤ length room → export_bytes ≤ length export → (r : Reading) → read sheet ≡ r
           → ExportComes sheet budget room export
       from-reading large wide (refused q n) d =
-          improperSheet large wide q n d (export-refused q n (enough-lent large wide ∙ ap (λ (x : Reading). answered x budget) d))
+          improper_sheet large wide q n d (export-refused q n (enough-lent large wide ∙ ap (λ (x : Reading). answered x budget) d))
       from-reading large wide (accepted p) d =
           let ends = search-comes-to-an-answer sheet p d budget in
           let is = result-of-search p d large wide ends.verdict ends.state ends.is in
-          properSheet large wide p d ends.verdict ends.state ends.is (export-answered p d ends.verdict ends.state is)
+          proper_sheet large wide p d ends.verdict ends.state ends.is (export-answered p d ends.verdict ends.state is)
 
-      from-export : roomBytes ≤ length room → ExportComes sheet budget room export
+      from-export : room_bytes ≤ length room → ExportComes sheet budget room export
       from-export large =
           by-test (leb export_bytes (length export))
           (λ e. from-reading large (leb-true export_bytes (length export) e) (read sheet) refl)
-          (λ e. let h = leb-false export_bytes (length export) e in exportTooSmall large h (export-refused 15 0 (small-export-room large h)))
+          (λ e. let h = leb-false export_bytes (length export) e in export_too_small large h (export-refused 15 0 (small-export-room large h)))
 
   -- ── beside the first call ──
 
-  pub export-as-first-call : roomBytes ≤ length room → export_bytes ≤ length export
-      → (exportCall sheet budget room export ≡ call sheet budget room)
-      × (roomAfterExport sheet budget room export ≡ roomAfter sheet budget room)
-  unfolding exportCall call roomAfterExport roomAfter
+  pub export-as-first-call : room_bytes ≤ length room → export_bytes ≤ length export
+      → (export_call sheet budget room export ≡ call sheet budget room)
+      × (room_after_export sheet budget room export ≡ room_after sheet budget room)
+  unfolding export_call call room_after_export room_after
   export-as-first-call large wide =
-      let same : exportResult sheet budget room export ≡ result sheet budget room
+      let same : export_result sheet budget room export ≡ result sheet budget room
       = enough-lent large wide ∙ sym (large-room sheet budget room large) in
-      (ap answer_of same, ap (λ (r : Result). written (listingOf r) room) same)
+      (ap answer_of same, ap (λ (r : Result). written (listing_of r) room) same)
 
   -- ── the text is read back ──
 
-  pub exported-read-back : roomBytes ≤ length room → export_bytes ≤ length export → (p : Problem) → read sheet ≡ accepted p
+  pub exported-read-back : room_bytes ≤ length room → export_bytes ≤ length export → (p : Problem) → read sheet ≡ accepted p
       → (v : Verdict) (s : State) → search p budget ≡ done v s
-      → readCnf (take (length (exportText sheet budget room export)) (exportAfter sheet budget room export)) ≡ yes (cnfOf p.clauses s)
-  unfolding exportAfter written
+      → read_cnf (take (length (export_text sheet budget room export)) (export_after sheet budget room export)) ≡ yes (cnf_of p.clauses s)
+  unfolding export_after written
   exported-read-back large wide p reads v s e =
-      let text = exportText sheet budget room export in
-      ap readCnf (take-append_seam text (drop (length text) export) ∙ text-of-answer p reads v s (result-of-search p reads large wide v s e))
+      let text = export_text sheet budget room export in
+      ap read_cnf (take-append_seam text (drop (length text) export) ∙ text-of-answer p reads v s (result-of-search p reads large wide v s e))
       ∙ export-round-trip sheet p reads budget v s e
 
 -- ── the text that the program prints ──
 
-pub prints-text : (sheet : List ℕ) (budget : ℕ) → Prints (λ p v s. cnfText (cnfOf p.clauses s)) sheet budget (printedCnf sheet budget)
-unfolding printedCnf
+pub prints-text : (sheet : List ℕ) (budget : ℕ) → Prints (λ p v s. cnf_text (cnf_of p.clauses s)) sheet budget (printed_cnf sheet budget)
+unfolding printed_cnf
 prints-text sheet budget =
-    prints sheet budget (export_of (read sheet)) (λ p v s. cnfText (cnfOf p.clauses s)) (λ p e v s. unfold export_of in ap (λ (r : Reading). export_of r (ended v s)) e)
+    prints sheet budget (export_of (read sheet)) (λ p v s. cnf_text (cnf_of p.clauses s)) (λ p e v s. unfold export_of in ap (λ (r : Reading). export_of r (ended v s)) e)
 
 -- it is read back too
 pub printed-read-back : (sheet : List ℕ) (p : Problem) → read sheet ≡ accepted p → (budget : ℕ) (v : Verdict) (s : State) → search p budget ≡ done v s
-    → readCnf (printedCnf sheet budget) ≡ yes (cnfOf p.clauses s)
-unfolding printedCnf printedOf answered searched export_of
-printed-read-back sheet p reads budget v s e = ap readCnf printed-text ∙ export-round-trip sheet p reads budget v s e
+    → read_cnf (printed_cnf sheet budget) ≡ yes (cnf_of p.clauses s)
+unfolding printed_cnf printed_of answered searched export_of
+printed-read-back sheet p reads budget v s e = ap read_cnf printed-text ∙ export-round-trip sheet p reads budget v s e
   where
-    printed-text : printedCnf sheet budget ≡ cnfText (cnfOf p.clauses s)
+    printed-text : printed_cnf sheet budget ≡ cnf_text (cnf_of p.clauses s)
     printed-text = rw (reads, e) refl

@@ -4,15 +4,15 @@ use Rattle.std.specs.Prelude.{ℕ, suc, ◌≤◌, ◌≡◌, refl, List, [], �
 use Rattle.std.proofs.Common.{sym, subst, ◌∙◌, inl, inr}
 use mathlib.Core.List.Memᴰ
 use Rattle.definitions.specs.Lists.{◌∈◌}
-use Rattle.definitions.specs.Words.{Atom, Literal, Clause, Rule, Problem, goalAtoms}
+use Rattle.definitions.specs.Words.{Atom, Literal, Clause, Rule, Problem, goal_atoms}
 use Rattle.definitions.specs.Instances.{ground, variables, Instance, fill, Task, task_of, FillingOf}
-use Rattle.definitions.specs.Meaning.{Assignment, Choice, Makes, Closure, chosen, derived, bothSigns, falseBody, Fails, SatisfiesClauses, SatisfiesFilling, Satisfies}
-use Rattle.definitions.specs.Search.{State, done, searchTask, search}
+use Rattle.definitions.specs.Meaning.{Assignment, Choice, Makes, Closure, chosen, derived, both_signs, false_body, Fails, SatisfiesClauses, SatisfiesFilling, Satisfies}
+use Rattle.definitions.specs.Search.{State, done, search_task, search}
 use Rattle.definitions.specs.Verdicts.{setting}
 use Rattle.definitions.specs.declared.Verdict.TheVariants.{Unsat, Unknown}
 use Rattle.theory.specs.ListLaws.{map-nil}
 use Rattle.theory.specs.WordLaws.{makes-not-both, goal-of, goal-from}
-use Rattle.theory.specs.PlaceLaws.{getElem-at}
+use Rattle.theory.specs.PlaceLaws.{get_elem-at}
 use Rattle.theory.specs.InstanceLaws.{substitutions-more, Renumbered, every-filling, only-fillings, filled-rule, filled-heads, filled-body}
 use Rattle.theory.specs.TwoWayLaws.{filling-implies, FromLines, lines-rules}
 use Rattle.theory.specs.Choices.{unsat-means}
@@ -26,10 +26,10 @@ pub record Among (k m : Task) : Type 0 where
   pub instances : (i : Instance) → i ∈ k.instances → Renumbered i m.instances
 
 module _ (k m : Task) (among : Among k m) (σ : Choice) where
-  goal-among : (a : Atom) → a ∈ goalAtoms k.clauses → a ∈ goalAtoms m.clauses
+  goal-among : (a : Atom) → a ∈ goal_atoms k.clauses → a ∈ goal_atoms m.clauses
   goal-among a i =
       let f = goal-from k.clauses a i in
-      subst (λ (x : Atom). x ∈ goalAtoms m.clauses) f.atom (goal-of m.clauses f.clause f.literal (among.clauses f.clause f.its) f.inside)
+      subst (λ (x : Atom). x ∈ goal_atoms m.clauses) f.atom (goal-of m.clauses f.clause f.literal (among.clauses f.clause f.its) f.inside)
 
   closure-among : {l : Literal} → Closure k σ l → Closure m σ l
   closure-among {l} (chosen i y) = chosen (goal-among l.atom i) y
@@ -39,11 +39,11 @@ module _ (k m : Task) (among : Among k m) (σ : Choice) where
 
   -- a choice that fails on some of the clauses and instances fails on all of them
   pub fails-among : Fails k σ → Fails m σ
-  fails-among (inl f) = inl (record { clause = f.clause; inside = among.clauses f.clause f.inside; allFalse = f.allFalse })
-  fails-among (inr (bothSigns l p q)) = inr (bothSigns l (closure-among p) (closure-among q))
-  fails-among (inr (falseBody i n hs e)) =
+  fails-among (inl f) = inl (record { clause = f.clause; inside = among.clauses f.clause f.inside; all_false = f.all_false })
+  fails-among (inr (both_signs l p q)) = inr (both_signs l (closure-among p) (closure-among q))
+  fails-among (inr (false_body i n hs e)) =
       let f = among.instances i n in
-      inr (falseBody f.instance f.inside (λ h j. closure-among (hs h (subst (λ ls. h ∈ ls) f.heads j))) (f.body ∙ e))
+      inr (false_body f.instance f.inside (λ h j. closure-among (hs h (subst (λ ls. h ∈ ls) f.heads j))) (f.body ∙ e))
 
 -- ── assignments that satisfy ──
 
@@ -60,17 +60,17 @@ module _ (k : Task) (v : Assignment) (r : Respects v k) where
 
   -- taken as a choice it does not fail
   pub respects-holds : Fails k v → ⊥
-  respects-holds (inl f) = let c = r.clauses f.clause f.inside in makes-not-both v c.literal c.holds (f.allFalse c.literal c.inside)
-  respects-holds (inr (bothSigns l p q)) = makes-not-both v l (closure-made p) (closure-made q)
-  respects-holds (inr (falseBody i n hs e)) = (r.instances i n (λ h j. closure-made (hs h j))).0 e
+  respects-holds (inl f) = let c = r.clauses f.clause f.inside in makes-not-both v c.literal c.holds (f.all_false c.literal c.inside)
+  respects-holds (inr (both_signs l p q)) = makes-not-both v l (closure-made p) (closure-made q)
+  respects-holds (inr (false_body i n hs e)) = (r.instances i n (λ h j. closure-made (hs h j))).0 e
 
 -- UNSAT on some of the clauses and instances: the whole is never answered UNKNOWN
-pub among-never-unknown : (k m : Task) → Among k m → (b c : ℕ) (s u : State) → searchTask k b ≡ done Unsat s → searchTask m c ≡ done Unknown u → ⊥
+pub among-never-unknown : (k m : Task) → Among k m → (b c : ℕ) (s u : State) → search_task k b ≡ done Unsat s → search_task m c ≡ done Unknown u → ⊥
 among-never-unknown k m among b c s u e f =
     (unknown-means m c u f).neither (fails-among k m among (setting u.trail) (unsat-means k b s e (setting u.trail)))
 
 -- and no assignment respects the whole
-pub among-unsatisfiable : (k m : Task) → Among k m → (b : ℕ) (s : State) → searchTask k b ≡ done Unsat s → (v : Assignment) → Respects v m → ⊥
+pub among-unsatisfiable : (k m : Task) → Among k m → (b : ℕ) (s : State) → search_task k b ≡ done Unsat s → (v : Assignment) → Respects v m → ⊥
 among-unsatisfiable k m among b s e v r = respects-holds m v r (fails-among k m among v (unsat-means k b s e v))
 
 -- ── problems ──
@@ -88,7 +88,7 @@ includes-among p q w =
     record {
       clauses = w.clauses;
       instances = λ i m. let f = only-fillings p i m in
-          let (place, e) = getElem-at (w.rules f.rule (filled-rule f).1) in
+          let (place, e) = get_elem-at (w.rules f.rule (filled-rule f).1) in
           let same = fill (suc place) f.rule f.filling in
           record {
             instance = same;
@@ -108,7 +108,7 @@ includes-among p q w =
 -- an assignment that satisfies every filling, two-way rules as equivalences, respects every instance
 pub satisfies-respects : (v : Assignment) (p : Problem) → FromLines p → Satisfies v p → Respects v (task_of p)
 unfolding task_of
-satisfies-respects v p fromLines w = record { clauses = w.clauses; instances = λ i m hs. respected i (only-fillings p i m) hs }
+satisfies-respects v p from_lines w = record { clauses = w.clauses; instances = λ i m hs. respected i (only-fillings p i m) hs }
   where
     filled : (i : Instance) (f : FillingOf p i) → SatisfiesFilling v f.rule f.filling → ((h : Literal) → h ∈ i.heads → Makes v h)
         → (i.body ≡ [] → ⊥) × ((l : Literal) → l ∈ i.body → Makes v l)
@@ -121,7 +121,7 @@ satisfies-respects v p fromLines w = record { clauses = w.clauses; instances = �
 
     respected : (i : Instance) (f : FillingOf p i) → ((h : Literal) → h ∈ i.heads → Makes v h)
         → (i.body ≡ [] → ⊥) × ((l : Literal) → l ∈ i.body → Makes v l)
-    respected i f hs = filled i f (lines-rules v p fromLines w.lines f.rule (filled-rule f).1 f.filling f.inside) hs
+    respected i f hs = filled i f (lines-rules v p from_lines w.lines f.rule (filled-rule f).1 f.filling f.inside) hs
 
 -- UNSAT of a problem: one that includes it is never answered UNKNOWN, at any budget, and no assignment satisfies it
 pub larger-never-unknown : (p q : Problem) → Includes p q → (b c : ℕ) (s u : State) → search p b ≡ done Unsat s → search q c ≡ done Unknown u → ⊥

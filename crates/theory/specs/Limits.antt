@@ -7,13 +7,13 @@ use mathlib.Core.List.Memᴰ
 use mathlib.Core.List.{List, [], ◌∷◌, ◌++◌, append-nil}
 use Rattle.std.proofs.Math.ListN.{length-append}
 use Rattle.std.proofs.lemmas.Bool.{eqb-false, not-true}
-use Rattle.definitions.specs.Bounds.{mostRules, mostClauses}
+use Rattle.definitions.specs.Bounds.{most_rules, most_clauses}
 use Rattle.definitions.specs.Lists.{◌∈◌, is_empty, distinct, joined}
-use Rattle.definitions.specs.Words.{Literal, Clause, Term, variable, constant, Pattern, Rule, TwoWay, forward, reverse, RuleLine, oneWay, twoWay, Problem, goalAtoms}
-use Rattle.definitions.specs.Sheet.{Line, putByte, lines, Number, plus}
-use Rattle.definitions.specs.Questions.{Asked, no, yes, ◌>>=◌, ◌>>◌, ask, Parsed, within, count, rank, kind_of, ruleArgument, clauseArgument, arguments, literal, literals, patternOf, literalOf, patterns, clauseLiterals, restricted, connected, hasReverse, stands_for, rulesOf, ways, countsAs, counted, constantsAsked, arityAsked, ruleCounts, ruleBehind, ruleAsked, twoWayCounts, twoWayBehind, twoWayAsked, clauseCount, clauseBehind, clauseAsked, withConstants, withSymbol, withLine, withClause, constantsLine, symbolLine, ruleLine, twoWayLine, clauseLine, lineOfKind, columnsAsked, Draft, readLine, accepted, readLines, emptyDraft, read}
+use Rattle.definitions.specs.Words.{Literal, Clause, Term, variable, constant, Pattern, Rule, TwoWay, forward, reverse, RuleLine, one_way, two_way, Problem, goal_atoms}
+use Rattle.definitions.specs.Sheet.{Line, put_byte, lines, Number, plus}
+use Rattle.definitions.specs.Questions.{Asked, no, yes, ◌>>=◌, ◌>>◌, ask, Parsed, within, count, rank, kind_of, rule_argument, clause_argument, arguments, literal, literals, pattern_of, literal_of, patterns, clause_literals, restricted, connected, has_reverse, stands_for, rules_of, ways, counts_as, counted, constants_asked, arity_asked, rule_counts, rule_behind, rule_asked, two_way_counts, two_way_behind, two_way_asked, clause_count, clause_behind, clause_asked, with_constants, with_symbol, with_line, with_clause, constants_line, symbol_line, rule_line, two_way_line, clause_line, line_of_kind, columns_asked, Draft, read_line, accepted, read_lines, empty_draft, read}
 use Rattle.theory.specs.Tests.{by-test, apart, and_intro, and_left, and_right}
-use Rattle.theory.specs.TableLaws.{enterAll, enter-known, atomsOf, goal-atoms-more}
+use Rattle.theory.specs.TableLaws.{enter_all, enter-known, atoms_of, goal-atoms-more}
 use Rattle.theory.specs.AskedLaws.{by-asked, accepted-read, early-kind}
 use Rattle.theory.specs.ListLaws.{full-some, Each, each_nil, each-cons, each_append, joined_length, joined-append}
 use Rattle.theory.specs.TwoWayLaws.{stands-cases, counted-more, rules-few, rules-counted, Rewrites, FromLines}
@@ -39,76 +39,76 @@ pub record LiteralLimits (p : Problem) (l : Literal) : Type 0 where
   pub in_range : (c : ℕ) → c ∈ l.atom.args → (1 ≤ c) × (c ≤ p.constants)
 
 pub record RuleLimits (p : Problem) (r : Rule) : Type 0 where
-  pub someHead : 1 ≤ length r.heads
+  pub some_head : 1 ≤ length r.heads
   pub heads : length r.heads ≤ 3
   pub body : length r.body ≤ 2
-  pub isRestricted : restricted r ≡ true
-  pub isConnected : connected r ≡ true
-  pub eachHead : (x : Pattern) → x ∈ r.heads → PatternLimits p x
-  pub eachBody : (x : Pattern) → x ∈ r.body → PatternLimits p x
+  pub is_restricted : restricted r ≡ true
+  pub is_connected : connected r ≡ true
+  pub each_head : (x : Pattern) → x ∈ r.heads → PatternLimits p x
+  pub each_body : (x : Pattern) → x ∈ r.body → PatternLimits p x
 
 -- 7/14: a two-way rule keeps them both ways
 pub record TwoWayLimits (p : Problem) (t : TwoWay) : Type 0 where
-  pub someRewritten : 1 ≤ length t.rewritten
+  pub some_rewritten : 1 ≤ length t.rewritten
   pub rewritten : length t.rewritten ≤ 2
   pub body : length t.body ≤ 2
   pub heads : length t.kept + length t.rewritten ≤ 3
   pub turned : length t.kept + length t.body ≤ 3
-  pub isRestricted : restricted (forward t) ≡ true
-  pub isConnected : connected (forward t) ≡ true
-  pub eachKept : (x : Pattern) → x ∈ t.kept → PatternLimits p x
-  pub eachRewritten : (x : Pattern) → x ∈ t.rewritten → PatternLimits p x
-  pub eachBody : (x : Pattern) → x ∈ t.body → PatternLimits p x
+  pub is_restricted : restricted (forward t) ≡ true
+  pub is_connected : connected (forward t) ≡ true
+  pub each_kept : (x : Pattern) → x ∈ t.kept → PatternLimits p x
+  pub each_rewritten : (x : Pattern) → x ∈ t.rewritten → PatternLimits p x
+  pub each_body : (x : Pattern) → x ∈ t.body → PatternLimits p x
 
 pub record ClauseLimits (p : Problem) (c : Clause) : Type 0 where
   pub literals : length c ≤ 8
-  pub eachLiteral : (l : Literal) → l ∈ c → LiteralLimits p l
+  pub each_literal : (l : Literal) → l ∈ c → LiteralLimits p l
 
 -- the limits of a problem that has at most so many rules and clauses
-pub record Within (ruleLimit clauseLimit : ℕ) (p : Problem) : Type 0 where
-  pub someConstant : 1 ≤ p.constants
+pub record Within (rule_limit clause_limit : ℕ) (p : Problem) : Type 0 where
+  pub some_constant : 1 ≤ p.constants
   pub constants : p.constants ≤ 32
   pub symbols : length p.arities ≤ 16
-  pub eachArity : (n : ℕ) → n ∈ p.arities → n ≤ 3
-  pub rules : length p.rules ≤ ruleLimit
-  pub eachRule : (r : Rule) → r ∈ p.rules → RuleLimits p r
-  pub clauses : length p.clauses ≤ clauseLimit
-  pub eachClause : (c : Clause) → c ∈ p.clauses → ClauseLimits p c
-  pub goals : length (goalAtoms p.clauses) ≤ 64
+  pub each_arity : (n : ℕ) → n ∈ p.arities → n ≤ 3
+  pub rules : length p.rules ≤ rule_limit
+  pub each_rule : (r : Rule) → r ∈ p.rules → RuleLimits p r
+  pub clauses : length p.clauses ≤ clause_limit
+  pub each_clause : (c : Clause) → c ∈ p.clauses → ClauseLimits p c
+  pub goals : length (goal_atoms p.clauses) ≤ 64
 
 -- those of a sheet's problem
 abbrev pub Limits : Problem → Type 0
-Limits p = Within mostRules mostClauses p
+Limits p = Within most_rules most_clauses p
 
 -- what the search asks of one: room for one clause more than a sheet has
-abbrev pub searchRules : ℕ
-searchRules = mostRules
+abbrev pub search_rules : ℕ
+search_rules = most_rules
 
-abbrev pub searchClauses : ℕ
-searchClauses = 65
+abbrev pub search_clauses : ℕ
+search_clauses = 65
 
 abbrev pub Searchable : Problem → Type 0
-Searchable p = Within searchRules searchClauses p
+Searchable p = Within search_rules search_clauses p
 
 -- an accepted sheet's problem is one
 pub limits-searchable : (p : Problem) → Limits p → Searchable p
 limits-searchable p h =
     record {
-      someConstant = h.someConstant;
+      some_constant = h.some_constant;
       constants = h.constants;
       symbols = h.symbols;
-      eachArity = h.eachArity;
+      each_arity = h.each_arity;
       rules = h.rules;
-      eachRule = h.eachRule;
+      each_rule = h.each_rule;
       clauses = omega (arith, h.clauses);
-      eachClause = h.eachClause;
+      each_clause = h.each_clause;
       goals = h.goals;
     }
 
 -- eight literals a clause
 pub few-literals : (p : Problem) → Searchable p → length (joined (λ (c : Clause). c) p.clauses) ≤ 520
 few-literals p h =
-    let few = joined_length (λ (c : Clause). c) 8 p.clauses (λ c m. (h.eachClause c m).literals) in
+    let few = joined_length (λ (c : Clause). c) 8 p.clauses (λ c m. (h.each_clause c m).literals) in
     omega (arith, few, h.clauses)
 
 -- an arity is at most 3; where no symbol is declared, 0 stands for it
@@ -118,7 +118,7 @@ arities-limit (k ∷ l) g zero = g k (Memᴰ.head refl)
 arities-limit (k ∷ l) g (suc n) = arities-limit l (λ j m. g j (Memᴰ.tail m)) n
 
 pub arity-limit : (p : Problem) → Limits p → (n : ℕ) → get_or p.arities n 0 ≤ 3
-arity-limit p h n = arities-limit p.arities h.eachArity n
+arity-limit p h n = arities-limit p.arities h.each_arity n
 
 -- ── what holds of whatever the questions let through ──
 
@@ -184,15 +184,15 @@ later-kind (suc before) ns h =
     asked 7 λ e.
     allows k (b.0, leb-true (rank (suc before)) (rank k.found) (and_right (leb (rank k.found) 4) _ e))
 
-rule-argument : (p : Problem) (n : Number) → Gives (TermLimits p) (ruleArgument p.constants n)
-unfolding ruleArgument
+rule-argument : (p : Problem) (n : Number) → Gives (TermLimits p) (rule_argument p.constants n)
+unfolding rule_argument
 rule-argument p n =
     by-test n.negative
-    (λ e. rw (e, ruleArgument) (asked 10 λ b. allows _ (between 1 p.constants n.size b)))
-    (λ e. rw (e, ruleArgument) (asked 10 λ b. allows _ (between 1 6 n.size b)))
+    (λ e. rw (e, rule_argument) (asked 10 λ b. allows _ (between 1 p.constants n.size b)))
+    (λ e. rw (e, rule_argument) (asked 10 λ b. allows _ (between 1 6 n.size b)))
 
-clause-argument : (p : Problem) (n : Number) → Gives (Between 1 p.constants) (clauseArgument p.constants n)
-unfolding clauseArgument
+clause-argument : (p : Problem) (n : Number) → Gives (Between 1 p.constants) (clause_argument p.constants n)
+unfolding clause_argument
 clause-argument p n = asked 10 λ e. allows _ (within-between 1 p.constants n e)
 
 -- so many, and each has the property
@@ -229,37 +229,37 @@ module _ {A : Type 0} (argument : Number → Asked A) (InRange : A → Type 0) (
         allows _ (ap suc g.0, each-cons Keeps h g.1)
 
 patterns-limits : (p : Problem) (k : ℕ) (ns : List Number) → Gives (Many (PatternLimits p) k) (patterns p.constants p.arities k ns)
-unfolding patterns patternOf
+unfolding patterns pattern_of
 patterns-limits p =
-    literals-keep (ruleArgument p.constants) (TermLimits p) (rule-argument p) patternOf p.arities (PatternLimits p)
+    literals-keep (rule_argument p.constants) (TermLimits p) (rule-argument p) pattern_of p.arities (PatternLimits p)
     λ b s ts d e g. record { symbol = d.0; declared = d.1; terms = e; in_range = g }
 
-literals-limits : (p : Problem) (k : ℕ) (ns : List Number) → Gives (Many (LiteralLimits p) k) (clauseLiterals p.constants p.arities k ns)
-unfolding clauseLiterals literalOf
+literals-limits : (p : Problem) (k : ℕ) (ns : List Number) → Gives (Many (LiteralLimits p) k) (clause_literals p.constants p.arities k ns)
+unfolding clause_literals literal_of
 literals-limits p =
-    literals-keep (clauseArgument p.constants) (Between 1 p.constants) (clause-argument p) literalOf p.arities (LiteralLimits p)
+    literals-keep (clause_argument p.constants) (Between 1 p.constants) (clause-argument p) literal_of p.arities (LiteralLimits p)
     λ b s cs d e g. record { symbol = d.0; declared = d.1; args = e; in_range = g }
 
 -- ── what a line of each kind gives ──
 
-constants-asked : (ns : List Number) → Gives (Between 1 32) (constantsAsked ns)
-unfolding constantsAsked
+constants-asked : (ns : List Number) → Gives (Between 1 32) (constants_asked ns)
+unfolding constants_asked
 constants-asked ns = then (count-between 8 1 32 ns) λ n h. asked 11 λ _. allows _ h
 
-arity-asked : (symbols : ℕ) (ns : List Number) → Gives (λ n. (n ≤ 3) × (ltb symbols 16 ≡ true)) (arityAsked symbols ns)
-unfolding arityAsked
+arity-asked : (symbols : ℕ) (ns : List Number) → Gives (λ n. (n ≤ 3) × (ltb symbols 16 ≡ true)) (arity_asked symbols ns)
+unfolding arity_asked
 arity-asked symbols ns = then (count-between 8 0 3 ns) λ n h. asked 9 λ room. asked 11 λ _. allows _ (h.1, room)
 
-counts-between : (ns : List Number) → Gives (λ w. Between 1 3 w.found.heads × Between 0 2 w.found.body) (ruleCounts ns)
-unfolding ruleCounts
+counts-between : (ns : List Number) → Gives (λ w. Between 1 3 w.found.heads × Between 0 2 w.found.body) (rule_counts ns)
+unfolding rule_counts
 counts-between ns =
     then (count-between 8 1 3 ns) λ heads h.
     then (count-between 8 0 2 heads.left) λ body b.
     allows _ (h, b)
 
 rule-asked : (p : Problem) (rules : ℕ) (ns : List Number)
-    → Gives (λ r. RuleLimits p r × (ltb rules 32 ≡ true)) (ruleAsked p.constants p.arities rules ns)
-unfolding ruleAsked ruleBehind
+    → Gives (λ r. RuleLimits p r × (ltb rules 32 ≡ true)) (rule_asked p.constants p.arities rules ns)
+unfolding rule_asked rule_behind
 rule-asked p rules ns =
     then (counts-between ns) λ counts h.
     asked 9 λ room.
@@ -270,20 +270,20 @@ rule-asked p rules ns =
     asked 14 λ linked.
     allows _ (
       record {
-        someHead = omega (arith, hl.0, h.0.0);
+        some_head = omega (arith, hl.0, h.0.0);
         heads = omega (arith, hl.0, h.0.1);
         body = omega (arith, bl.0, h.1.1);
-        isRestricted = safe;
-        isConnected = linked;
-        eachHead = hl.1;
-        eachBody = bl.1;
+        is_restricted = safe;
+        is_connected = linked;
+        each_head = hl.1;
+        each_body = bl.1;
       },
       room,
     )
 
 two-way-counts : (ns : List Number)
-    → Gives (λ w. Between 1 2 w.found.rewritten × (w.found.body ≤ 2) × (w.found.kept + w.found.rewritten ≤ 3) × (w.found.kept + w.found.body ≤ 3)) (twoWayCounts ns)
-unfolding twoWayCounts
+    → Gives (λ w. Between 1 2 w.found.rewritten × (w.found.body ≤ 2) × (w.found.kept + w.found.rewritten ≤ 3) × (w.found.kept + w.found.body ≤ 3)) (two_way_counts ns)
+unfolding two_way_counts
 two-way-counts ns =
     then (count-between 8 0 2 ns) λ kept k.
     then (count-between 8 1 2 kept.left) λ rewritten r.
@@ -294,8 +294,8 @@ two-way-counts ns =
     allows _ (r, b.1, leb-true _ 3 (and_left first second sums), leb-true _ 3 (and_right first second sums))
 
 two-way-asked : (p : Problem) (rules : ℕ) (ns : List Number)
-    → Gives (λ t. TwoWayLimits p t × (rules + ways (length t.body) ≤ 32)) (twoWayAsked p.constants p.arities rules ns)
-unfolding twoWayAsked twoWayBehind
+    → Gives (λ t. TwoWayLimits p t × (rules + ways (length t.body) ≤ 32)) (two_way_asked p.constants p.arities rules ns)
+unfolding two_way_asked two_way_behind
 two-way-asked p rules ns =
     then (two-way-counts ns) λ counts h.
     asked 9 λ room.
@@ -307,23 +307,23 @@ two-way-asked p rules ns =
     asked 14 λ linked.
     allows _ (
       record {
-        someRewritten = omega (arith, rl.0, h.0.0);
+        some_rewritten = omega (arith, rl.0, h.0.0);
         rewritten = omega (arith, rl.0, h.0.1);
         body = omega (arith, bl.0, h.1);
         heads = omega (arith, kl.0, rl.0, h.2);
         turned = omega (arith, kl.0, bl.0, h.3);
-        isRestricted = safe;
-        isConnected = linked;
-        eachKept = kl.1;
-        eachRewritten = rl.1;
-        eachBody = bl.1;
+        is_restricted = safe;
+        is_connected = linked;
+        each_kept = kl.1;
+        each_rewritten = rl.1;
+        each_body = bl.1;
       },
       rw bl.0 (leb-true (rules + ways counts.found.body) 32 room),
     )
 
 -- the rules that a line stands for keep the limits: the forward rule by what was asked, the reverse rule by the test that it is there
-reverse-tests : (t : TwoWay) → hasReverse t ≡ true → (is_empty t.body ≡ false) × (restricted (reverse t) ≡ true) × (connected (reverse t) ≡ true)
-unfolding hasReverse
+reverse-tests : (t : TwoWay) → has_reverse t ≡ true → (is_empty t.body ≡ false) × (restricted (reverse t) ≡ true) × (connected (reverse t) ≡ true)
+unfolding has_reverse
 reverse-tests t h =
     let some = not (is_empty t.body) in
     let first = and_left (some && restricted (reverse t)) (connected (reverse t)) h in
@@ -334,27 +334,27 @@ module _ (p : Problem) (t : TwoWay) (l : TwoWayLimits p t) where
   unfolding forward
   forward-limits =
       record {
-        someHead = omega (arith, length-append t.kept t.rewritten, l.someRewritten);
+        some_head = omega (arith, length-append t.kept t.rewritten, l.some_rewritten);
         heads = omega (arith, length-append t.kept t.rewritten, l.heads);
         body = l.body;
-        isRestricted = l.isRestricted;
-        isConnected = l.isConnected;
-        eachHead = each_append (PatternLimits p) t.kept l.eachKept l.eachRewritten;
-        eachBody = l.eachBody;
+        is_restricted = l.is_restricted;
+        is_connected = l.is_connected;
+        each_head = each_append (PatternLimits p) t.kept l.each_kept l.each_rewritten;
+        each_body = l.each_body;
       }
 
-  reverse-limits : hasReverse t ≡ true → RuleLimits p (reverse t)
+  reverse-limits : has_reverse t ≡ true → RuleLimits p (reverse t)
   unfolding reverse
   reverse-limits h =
       let (some, safe, linked) = reverse-tests t h in
       record {
-        someHead = omega (arith, length-append t.kept t.body, full-some t.body some);
+        some_head = omega (arith, length-append t.kept t.body, full-some t.body some);
         heads = omega (arith, length-append t.kept t.body, l.turned);
         body = l.rewritten;
-        isRestricted = safe;
-        isConnected = linked;
-        eachHead = each_append (PatternLimits p) t.kept l.eachKept l.eachBody;
-        eachBody = l.eachRewritten;
+        is_restricted = safe;
+        is_connected = linked;
+        each_head = each_append (PatternLimits p) t.kept l.each_kept l.each_body;
+        each_body = l.each_rewritten;
       }
 
   stands-limits : Each (RuleLimits p) (stands_for t)
@@ -365,17 +365,17 @@ module _ (p : Problem) (t : TwoWay) (l : TwoWayLimits p t) where
       ]
 
 clause-asked : (p : Problem) (ns : List Number)
-    → Gives (λ c. ClauseLimits p c × (ltb (length p.clauses) 64 ≡ true)) (clauseAsked p.constants p.arities (length p.clauses) ns)
-unfolding clauseAsked clauseCount clauseBehind
+    → Gives (λ c. ClauseLimits p c × (ltb (length p.clauses) 64 ≡ true)) (clause_asked p.constants p.arities (length p.clauses) ns)
+unfolding clause_asked clause_count clause_behind
 clause-asked p ns =
-    then (count-between 8 0 8 ns) λ literalCount h.
+    then (count-between 8 0 8 ns) λ literal_count h.
     asked 9 λ room.
-    then (literals-limits p literalCount.found literalCount.left) λ c cl.
+    then (literals-limits p literal_count.found literal_count.left) λ c cl.
     asked 11 λ _.
-    allows _ (record { literals = omega (arith, cl.0, h.1); eachLiteral = cl.1 }, room)
+    allows _ (record { literals = omega (arith, cl.0, h.1); each_literal = cl.1 }, room)
 
 -- a clause, as it is read, keeps the limits
-pub clause-asked-limits : (p : Problem) (ns : List Number) (c : Clause) → clauseAsked p.constants p.arities (length p.clauses) ns ≡ yes c → ClauseLimits p c
+pub clause-asked-limits : (p : Problem) (ns : List Number) (c : Clause) → clause_asked p.constants p.arities (length p.clauses) ns ≡ yes c → ClauseLimits p c
 clause-asked-limits p ns c e = (given (clause-asked p ns) c e).0
 
 -- ── a line ──
@@ -383,7 +383,7 @@ clause-asked-limits p ns c e = (given (clause-asked p ns) c e).0
 -- the limits of a rule and of a clause speak of constants and symbols alone: other rules and clauses may stand beside
 module _ (p : Problem) (ls : List RuleLine) (rs : List Rule) (cs : List Clause) where
   abbrev Beside : Problem
-  Beside = record { constants = p.constants; arities = p.arities; ruleLines = ls; rules = rs; clauses = cs }
+  Beside = record { constants = p.constants; arities = p.arities; rule_lines = ls; rules = rs; clauses = cs }
 
   term-beside : (t : Term) → TermLimits p t → TermLimits Beside t
   term-beside (variable v) h = h
@@ -395,20 +395,20 @@ module _ (p : Problem) (ls : List RuleLine) (rs : List Rule) (cs : List Clause) 
   rule-beside : {r : Rule} → RuleLimits p r → RuleLimits Beside r
   rule-beside h =
       record {
-        someHead = h.someHead;
+        some_head = h.some_head;
         heads = h.heads;
         body = h.body;
-        isRestricted = h.isRestricted;
-        isConnected = h.isConnected;
-        eachHead = λ x m. pattern-beside (h.eachHead x m);
-        eachBody = λ x m. pattern-beside (h.eachBody x m);
+        is_restricted = h.is_restricted;
+        is_connected = h.is_connected;
+        each_head = λ x m. pattern-beside (h.each_head x m);
+        each_body = λ x m. pattern-beside (h.each_body x m);
       }
 
   literal-beside : {l : Literal} → LiteralLimits p l → LiteralLimits Beside l
   literal-beside h = record { symbol = h.symbol; declared = h.declared; args = h.args; in_range = h.in_range }
 
   clause-beside : {c : Clause} → ClauseLimits p c → ClauseLimits Beside c
-  clause-beside h = record { literals = h.literals; eachLiteral = λ l m. literal-beside (h.eachLiteral l m) }
+  clause-beside h = record { literals = h.literals; each_literal = λ l m. literal-beside (h.each_literal l m) }
 
 one_more : {A : Type 0} (l : List A) (x : A) (n : ℕ) → ltb (length l) n ≡ true → length (l ++ (x ∷ [])) ≤ n
 one_more l x n e = omega (arith, length-append l (x ∷ []), ltb-true (length l) n e)
@@ -428,24 +428,24 @@ abbrev Keeping : Problem → Type 0
 Keeping p = Limits p × FromLines p
 
 -- lines and rules stay where the constants, the symbols or the clauses change
-lines-beside : {p q : Problem} → q.ruleLines ≡ p.ruleLines → q.rules ≡ p.rules → FromLines p → FromLines q
+lines-beside : {p q : Problem} → q.rule_lines ≡ p.rule_lines → q.rules ≡ p.rules → FromLines p → FromLines q
 lines-beside e f b = record { rules = cc b.rules; few = rw e b.few; rewrites = rw e b.rewrites }
 
-constants-line : (p : Problem) → p.arities ≡ [] → Bare p → FromLines p → (ns : List Number) → Gives (λ q. Keeping q × Bare q) (constantsLine p ns)
-unfolding constantsLine withConstants goalAtoms distinct joined
+constants-line : (p : Problem) → p.arities ≡ [] → Bare p → FromLines p → (ns : List Number) → Gives (λ q. Keeping q × Bare q) (constants_line p ns)
+unfolding constants_line with_constants goal_atoms distinct joined
 constants-line p a b k ns =
     then (constants-asked ns) λ n h.
     allows _ (
       (
         record {
-          someConstant = h.0;
+          some_constant = h.0;
           constants = h.1;
           symbols = rw a (omega arith);
-          eachArity = λ k m. absurd (none_in a k m);
+          each_arity = λ k m. absurd (none_in a k m);
           rules = rw b.0 (omega arith);
-          eachRule = λ r m. absurd (none_in b.0 r m);
+          each_rule = λ r m. absurd (none_in b.0 r m);
           clauses = rw b.1 (omega arith);
-          eachClause = λ c m. absurd (none_in b.1 c m);
+          each_clause = λ c m. absurd (none_in b.1 c m);
           goals = rw b.1 (omega arith);
         },
         lines-beside refl refl k,
@@ -453,21 +453,21 @@ constants-line p a b k ns =
       b,
     )
 
-symbol-line : (p : Problem) → Keeping p → Bare p → (ns : List Number) → Gives (λ q. Keeping q × Bare q) (symbolLine p ns)
-unfolding symbolLine withSymbol
+symbol-line : (p : Problem) → Keeping p → Bare p → (ns : List Number) → Gives (λ q. Keeping q × Bare q) (symbol_line p ns)
+unfolding symbol_line with_symbol
 symbol-line p (l, k) b ns =
     then (arity-asked (length p.arities) ns) λ n h.
     allows _ (
       (
         record {
-          someConstant = l.someConstant;
+          some_constant = l.some_constant;
           constants = l.constants;
           symbols = one_more p.arities n 16 h.1;
-          eachArity = each_more (λ k. k ≤ 3) p.arities n l.eachArity h.0;
+          each_arity = each_more (λ k. k ≤ 3) p.arities n l.each_arity h.0;
           rules = l.rules;
-          eachRule = λ r m. absurd (none_in b.0 r m);
+          each_rule = λ r m. absurd (none_in b.0 r m);
           clauses = l.clauses;
-          eachClause = λ c m. absurd (none_in b.1 c m);
+          each_clause = λ c m. absurd (none_in b.1 c m);
           goals = l.goals;
         },
         lines-beside refl refl k,
@@ -476,109 +476,109 @@ symbol-line p (l, k) b ns =
     )
 
 -- a line more, of kind 3 or 8, that question 9 lets through
-line-added : (p : Problem) (l : RuleLine) → FromLines p → counted p.ruleLines + countsAs l ≤ 32 → Rewrites l → FromLines (withLine p l)
-unfolding withLine joined counted
+line-added : (p : Problem) (l : RuleLine) → FromLines p → counted p.rule_lines + counts_as l ≤ 32 → Rewrites l → FromLines (with_line p l)
+unfolding with_line joined counted
 line-added p l b room h =
     record {
-      rules = rw (joined-append rulesOf p.ruleLines (l ∷ []), b.rules, append-nil (rulesOf l));
-      few = omega (arith, counted-more p.ruleLines l, room);
-      rewrites = λ k m. elim (Memᴰ.append_cases p.ruleLines m) [ inl i ↦ b.rewrites k i | inr j ↦ subst Rewrites (sym (Memᴰ.eq_of_singleton j)) h ];
+      rules = rw (joined-append rules_of p.rule_lines (l ∷ []), b.rules, append-nil (rules_of l));
+      few = omega (arith, counted-more p.rule_lines l, room);
+      rewrites = λ k m. elim (Memᴰ.append_cases p.rule_lines m) [ inl i ↦ b.rewrites k i | inr j ↦ subst Rewrites (sym (Memᴰ.eq_of_singleton j)) h ];
     }
 
-line-keeping : (p : Problem) (x : RuleLine) → Keeping p → counted p.ruleLines + countsAs x ≤ 32 → Rewrites x → Each (RuleLimits p) (rulesOf x)
-    → Keeping (withLine p x)
-unfolding withLine
+line-keeping : (p : Problem) (x : RuleLine) → Keeping p → counted p.rule_lines + counts_as x ≤ 32 → Rewrites x → Each (RuleLimits p) (rules_of x)
+    → Keeping (with_line p x)
+unfolding with_line
 line-keeping p x (l, b) room h each =
-    let ls = p.ruleLines ++ (x ∷ []) in
-    let rs = p.rules ++ rulesOf x in (
+    let ls = p.rule_lines ++ (x ∷ []) in
+    let rs = p.rules ++ rules_of x in (
       record {
-        someConstant = l.someConstant;
+        some_constant = l.some_constant;
         constants = l.constants;
         symbols = l.symbols;
-        eachArity = l.eachArity;
-        rules = omega (arith, length-append p.rules (rulesOf x), ap length b.rules, rules-counted p.ruleLines, rules-few x, room);
-        eachRule = λ r m. rule-beside p ls rs p.clauses (each_append (RuleLimits p) p.rules l.eachRule each r m);
+        each_arity = l.each_arity;
+        rules = omega (arith, length-append p.rules (rules_of x), ap length b.rules, rules-counted p.rule_lines, rules-few x, room);
+        each_rule = λ r m. rule-beside p ls rs p.clauses (each_append (RuleLimits p) p.rules l.each_rule each r m);
         clauses = l.clauses;
-        eachClause = λ c m. clause-beside p ls rs p.clauses (l.eachClause c m);
+        each_clause = λ c m. clause-beside p ls rs p.clauses (l.each_clause c m);
         goals = l.goals;
       },
       line-added p x b room h,
     )
 
-rule-line : (p : Problem) → Keeping p → (ns : List Number) → Gives Keeping (ruleLine p ns)
-unfolding ruleLine rulesOf countsAs
+rule-line : (p : Problem) → Keeping p → (ns : List Number) → Gives Keeping (rule_line p ns)
+unfolding rule_line rules_of counts_as
 rule-line p l ns =
-    then (rule-asked p (counted p.ruleLines) ns) λ r h.
-    allows _ (line-keeping p (oneWay r) l (omega (arith, ltb-true (counted p.ruleLines) 32 h.1)) tt (each-cons (RuleLimits p) h.0 (each_nil (RuleLimits p))))
+    then (rule-asked p (counted p.rule_lines) ns) λ r h.
+    allows _ (line-keeping p (one_way r) l (omega (arith, ltb-true (counted p.rule_lines) 32 h.1)) tt (each-cons (RuleLimits p) h.0 (each_nil (RuleLimits p))))
 
-two-way-line : (p : Problem) → Keeping p → (ns : List Number) → Gives Keeping (twoWayLine p ns)
-unfolding twoWayLine rulesOf countsAs
+two-way-line : (p : Problem) → Keeping p → (ns : List Number) → Gives Keeping (two_way_line p ns)
+unfolding two_way_line rules_of counts_as
 two-way-line p l ns =
-    then (two-way-asked p (counted p.ruleLines) ns) λ t h.
-    allows _ (line-keeping p (twoWay t) l h.1 (λ e. let z = ap length e in omega (arith, h.0.someRewritten)) (stands-limits p t h.0))
+    then (two-way-asked p (counted p.rule_lines) ns) λ t h.
+    allows _ (line-keeping p (two_way t) l h.1 (λ e. let z = ap length e in omega (arith, h.0.some_rewritten)) (stands-limits p t h.0))
 
-clause-line : (p : Problem) → Keeping p → (ns : List Number) → Gives Keeping (clauseLine p ns)
-unfolding clauseLine withClause
+clause-line : (p : Problem) → Keeping p → (ns : List Number) → Gives Keeping (clause_line p ns)
+unfolding clause_line with_clause
 clause-line p (l, b) ns =
     then (clause-asked p ns) λ c h.
     asked 13 λ few.
     let cs = p.clauses ++ (c ∷ []) in
     allows _ (
       record {
-        someConstant = l.someConstant;
+        some_constant = l.some_constant;
         constants = l.constants;
         symbols = l.symbols;
-        eachArity = l.eachArity;
+        each_arity = l.each_arity;
         rules = l.rules;
-        eachRule = λ r m. rule-beside p p.ruleLines p.rules cs (l.eachRule r m);
+        each_rule = λ r m. rule-beside p p.rule_lines p.rules cs (l.each_rule r m);
         clauses = one_more p.clauses c 64 h.1;
-        eachClause = λ x m. clause-beside p p.ruleLines p.rules cs (each_more (ClauseLimits p) p.clauses c l.eachClause h.0 x m);
-        goals = leb-true (length (goalAtoms cs)) 64 few;
+        each_clause = λ x m. clause-beside p p.rule_lines p.rules cs (each_more (ClauseLimits p) p.clauses c l.each_clause h.0 x m);
+        goals = leb-true (length (goal_atoms cs)) 64 few;
       },
       lines-beside refl refl b,
     )
 
 line-of-kind-1 : (p : Problem) → p.arities ≡ [] → Bare p → FromLines p → (k : ℕ) → k ≡ 1 → (ns : List Number)
-    → Gives (λ q. Keeping q × Bare q) (lineOfKind k p ns)
-unfolding lineOfKind
-line-of-kind-1 p a b l k e ns = rw (eq-eqb k 1 e, lineOfKind) (constants-line p a b l ns)
+    → Gives (λ q. Keeping q × Bare q) (line_of_kind k p ns)
+unfolding line_of_kind
+line-of-kind-1 p a b l k e ns = rw (eq-eqb k 1 e, line_of_kind) (constants-line p a b l ns)
 
 line-of-later-kind : (p : Problem) → Keeping p → (k : ℕ) → 2 ≤ k → (k ≤ 2 → Bare p) → (ns : List Number)
-    → Gives (λ q. Keeping q × (k ≤ 2 → Bare q)) (lineOfKind k p ns)
-unfolding lineOfKind
+    → Gives (λ q. Keeping q × (k ≤ 2 → Bare q)) (line_of_kind k p ns)
+unfolding line_of_kind
 line-of-later-kind p l k h b ns =
     let e1 : eqb k 1 ≡ false = ne_eqb k 1 (λ e. omega arith) in
     by-test (eqb k 2)
-    (λ e2. rw (e1, e2, lineOfKind) (weaken (symbol-line p l (b (omega (arith, eqb-true k 2 e2))) ns) (λ q g. (g.0, λ _. g.1))))
+    (λ e2. rw (e1, e2, line_of_kind) (weaken (symbol-line p l (b (omega (arith, eqb-true k 2 e2))) ns) (λ q g. (g.0, λ _. g.1))))
     (λ e2. let above : k ≤ 2 → ⊥ = λ le. eqb-false k 2 e2 (omega arith) in
     by-test (eqb k 3)
-    (λ e3. rw (e1, e2, e3, lineOfKind) (weaken (rule-line p l ns) (λ q g. (g, λ le. absurd (above le)))))
+    (λ e3. rw (e1, e2, e3, line_of_kind) (weaken (rule-line p l ns) (λ q g. (g, λ le. absurd (above le)))))
     (λ e3. by-test (eqb k 8)
-    (λ e8. rw (e1, e2, e3, e8, lineOfKind) (weaken (two-way-line p l ns) (λ q g. (g, λ le. absurd (above le)))))
-    (λ e8. rw (e1, e2, e3, e8, lineOfKind) (weaken (clause-line p l ns) (λ q g. (g, λ le. absurd (above le)))))))
+    (λ e8. rw (e1, e2, e3, e8, line_of_kind) (weaken (two-way-line p l ns) (λ q g. (g, λ le. absurd (above le)))))
+    (λ e8. rw (e1, e2, e3, e8, line_of_kind) (weaken (clause-line p l ns) (λ q g. (g, λ le. absurd (above le)))))))
 
 -- ── one clause more ──
 
-goal-known : (cs : List Clause) (l : Literal) → l.atom ∈ goalAtoms cs → goalAtoms (cs ++ ((l ∷ []) ∷ [])) ≡ goalAtoms cs
-unfolding enterAll atomsOf
-goal-known cs l m = goal-atoms-more cs (l ∷ []) ∙ enter-known (goalAtoms cs) l.atom m
+goal-known : (cs : List Clause) (l : Literal) → l.atom ∈ goal_atoms cs → goal_atoms (cs ++ ((l ∷ []) ∷ [])) ≡ goal_atoms cs
+unfolding enter_all atoms_of
+goal-known cs l m = goal-atoms-more cs (l ∷ []) ∙ enter-known (goal_atoms cs) l.atom m
 
 -- a sheet's problem with one literal of a goal atom as a further last clause
-pub one-more-searchable : (p : Problem) → Limits p → (l : Literal) → LiteralLimits p l → l.atom ∈ goalAtoms p.clauses → Searchable (withClause p (l ∷ []))
-unfolding withClause
+pub one-more-searchable : (p : Problem) → Limits p → (l : Literal) → LiteralLimits p l → l.atom ∈ goal_atoms p.clauses → Searchable (with_clause p (l ∷ []))
+unfolding with_clause
 one-more-searchable p h l its goal =
     let s = limits-searchable p h in
     let cs = p.clauses ++ ((l ∷ []) ∷ []) in
-    let alone : ClauseLimits p (l ∷ []) = record { literals = omega arith; eachLiteral = each-cons (LiteralLimits p) its (each_nil (LiteralLimits p)) } in
+    let alone : ClauseLimits p (l ∷ []) = record { literals = omega arith; each_literal = each-cons (LiteralLimits p) its (each_nil (LiteralLimits p)) } in
     record {
-      someConstant = s.someConstant;
+      some_constant = s.some_constant;
       constants = s.constants;
       symbols = s.symbols;
-      eachArity = s.eachArity;
+      each_arity = s.each_arity;
       rules = s.rules;
-      eachRule = λ r m. rule-beside p p.ruleLines p.rules cs (s.eachRule r m);
+      each_rule = λ r m. rule-beside p p.rule_lines p.rules cs (s.each_rule r m);
       clauses = omega (arith, length-append p.clauses ((l ∷ []) ∷ []), h.clauses);
-      eachClause = λ c m. clause-beside p p.ruleLines p.rules cs (each_more (ClauseLimits p) p.clauses (l ∷ []) s.eachClause alone c m);
+      each_clause = λ c m. clause-beside p p.rule_lines p.rules cs (each_more (ClauseLimits p) p.clauses (l ∷ []) s.each_clause alone c m);
       goals = subst (λ gs. length gs ≤ 64) (sym (goal-known p.clauses l goal)) h.goals;
     }
 
@@ -587,49 +587,49 @@ one-more-searchable p h l its goal =
 -- what holds after the first line; kinds never fall in rank, so up to the last symbol no rule and no clause has been read
 pub record Begun (d : Draft) : Type 0 where
   pub limits : Limits d.problem
-  pub fromLines : FromLines d.problem
+  pub from_lines : FromLines d.problem
   pub begun : 1 ≤ d.before
   pub bare : d.before ≤ 2 → Bare d.problem
 
-no_lines : FromLines emptyDraft.problem
-unfolding emptyDraft joined counted
+no_lines : FromLines empty_draft.problem
+unfolding empty_draft joined counted
 no_lines = record { rules = refl; few = omega arith; rewrites = λ l m. absurd (Memᴰ.not-nil m) }
 
-first-line : (l : Line) → Gives Begun (readLine emptyDraft l)
-unfolding readLine emptyDraft kind_of
+first-line : (l : Line) → Gives Begun (read_line empty_draft l)
+unfolding read_line empty_draft kind_of
 first-line l =
-    then (anything (columnsAsked l)) λ ns _.
+    then (anything (columns_asked l)) λ ns _.
     then (count-between 7 1 1 ns) λ k h.
     then (line-of-kind-1 _ refl (refl, refl) no_lines k.found (omega (arith, h.0, h.1)) k.left) λ p g.
-    allows _ (record { limits = g.0.0; fromLines = g.0.1; begun = h.0; bare = λ _. g.1 })
+    allows _ (record { limits = g.0.0; from_lines = g.0.1; begun = h.0; bare = λ _. g.1 })
 
-later-line : (d : Draft) → Begun d → (l : Line) → Gives Begun (readLine d l)
-unfolding readLine
+later-line : (d : Draft) → Begun d → (l : Line) → Gives Begun (read_line d l)
+unfolding read_line
 later-line d i l =
-    then (anything (columnsAsked l)) λ ns _.
+    then (anything (columns_asked l)) λ ns _.
     then (later-kind d.before ns i.begun) λ k h.
-    then (line-of-later-kind d.problem (i.limits, i.fromLines) k.found h.0 (λ le. i.bare (early-kind d.before k.found h.1 le)) k.left) λ p g.
-    allows _ (record { limits = g.0.0; fromLines = g.0.1; begun = omega (arith, h.0); bare = g.1 })
+    then (line-of-later-kind d.problem (i.limits, i.from_lines) k.found h.0 (λ le. i.bare (early-kind d.before k.found h.1 le)) k.left) λ p g.
+    allows _ (record { limits = g.0.0; from_lines = g.0.1; begun = omega (arith, h.0); bare = g.1 })
 
 -- a line that is read, the first one or a later one
-pub line-begun : (d e : Draft) (l : Line) → (d ≡ emptyDraft) ⊎ Begun d → readLine d l ≡ yes e → Begun e
-line-begun d e l (inl q) h = given (first-line l) e (ap (λ (x : Draft). readLine x l) (sym q) ∙ h)
+pub line-begun : (d e : Draft) (l : Line) → (d ≡ empty_draft) ⊎ Begun d → read_line d l ≡ yes e → Begun e
+line-begun d e l (inl q) h = given (first-line l) e (ap (λ (x : Draft). read_line x l) (sym q) ∙ h)
 line-begun d e l (inr b) h = given (later-line d b l) e h
 
-later-lines : (ls : List Line) (d : Draft) (n : ℕ) (p : Problem) → Begun d → readLines d n ls ≡ accepted p → Keeping p
-unfolding readLines
-later-lines [] d n p i e = let q : d.problem ≡ p = cc in subst Keeping q (i.limits, i.fromLines)
+later-lines : (ls : List Line) (d : Draft) (n : ℕ) (p : Problem) → Begun d → read_lines d n ls ≡ accepted p → Keeping p
+unfolding read_lines
+later-lines [] d n p i e = let q : d.problem ≡ p = cc in subst Keeping q (i.limits, i.from_lines)
 later-lines (l ∷ ls) d n p i e =
-    by-asked (readLine d l) (λ q f. apart (cc)) (λ d' f. later-lines ls d' (suc n) p (given (later-line d i l) d' f) (cc))
+    by-asked (read_line d l) (λ q f. apart (cc)) (λ d' f. later-lines ls d' (suc n) p (given (later-line d i l) d' f) (cc))
 
-all_lines : (ls : List Line) (p : Problem) → is_empty ls ≡ false → readLines emptyDraft 1 ls ≡ accepted p → Keeping p
-unfolding readLines is_empty
+all_lines : (ls : List Line) (p : Problem) → is_empty ls ≡ false → read_lines empty_draft 1 ls ≡ accepted p → Keeping p
+unfolding read_lines is_empty
 all_lines [] p s e = apart (cc)
 all_lines (l ∷ ls) p s e =
-    by-asked (readLine emptyDraft l) (λ q f. apart (cc)) (λ d f. later-lines ls d 2 p (given (first-line l) d f) (cc))
+    by-asked (read_line empty_draft l) (λ q f. apart (cc)) (λ d f. later-lines ls d 2 p (given (first-line l) d f) (cc))
 
-put_some : (b : ℕ) (ls : List Line) → is_empty (putByte b ls) ≡ false
-unfolding is_empty putByte
+put_some : (b : ℕ) (ls : List Line) → is_empty (put_byte b ls) ≡ false
+unfolding is_empty put_byte
 put_some b [] = refl
 put_some b (l ∷ ls) = refl
 

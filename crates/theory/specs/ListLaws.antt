@@ -8,7 +8,7 @@ use Rattle.std.proofs.Math.Option.{Option, none, some}
 use mathlib.Core.List.Memᴰ
 use mathlib.Core.List.{List, [], ◌∷◌, ◌++◌, map, cons≢nil, head-eq_of_cons-eq, tail-eq_of_cons-eq}
 use native.Mathlib.Omega.{arith}
-use Rattle.definitions.specs.Lists.{◌∈◌, is_empty, any, all, filter, find, firstSome, joined, Different}
+use Rattle.definitions.specs.Lists.{◌∈◌, is_empty, any, all, filter, find, first_some, joined, Different}
 use Rattle.theory.specs.Tests.{by-test, by-option, apart, none≢some}
 
 -- an element of a list that is split
@@ -182,26 +182,26 @@ filter-both p q (x ∷ xs) =
     by-test (p x) (λ a. by-test (q x) (λ b. cc rest) (λ b. cc rest)) (λ a. by-test (q x) (λ b. cc rest) (λ b. cc rest))
 
 module _ {A B : Type 0} (f : A → Option B) where
-  pub firstSome-in : (xs : List A) (b : B) → firstSome f xs ≡ some b → (x : A) × (x ∈ xs) × (f x ≡ some b)
-  unfolding firstSome
-  firstSome-in [] b h = none≢some h
-  firstSome-in (y ∷ ys) b h =
+  pub first_some-in : (xs : List A) (b : B) → first_some f xs ≡ some b → (x : A) × (x ∈ xs) × (f x ≡ some b)
+  unfolding first_some
+  first_some-in [] b h = none≢some h
+  first_some-in (y ∷ ys) b h =
       by-option (f y)
-      (λ e. let (x, m, q) = firstSome-in ys b (cc) in (x, Memᴰ.tail m, q))
+      (λ e. let (x, m, q) = first_some-in ys b (cc) in (x, Memᴰ.tail m, q))
       (λ c e. (y, Memᴰ.head refl, cc))
 
-  pub firstSome-none : (xs : List A) → firstSome f xs ≡ none → (x : A) → x ∈ xs → f x ≡ none
-  unfolding firstSome
-  firstSome-none [] h x m = absurd (Memᴰ.not-nil m)
-  firstSome-none (y ∷ ys) h x (Memᴰ.head q) = by-option (f y) (λ e. cc) (λ b e. apart (cc))
-  firstSome-none (y ∷ ys) h x (Memᴰ.tail m) = by-option (f y) (λ e. firstSome-none ys (cc) x m) (λ b e. apart (cc))
+  pub first_some-none : (xs : List A) → first_some f xs ≡ none → (x : A) → x ∈ xs → f x ≡ none
+  unfolding first_some
+  first_some-none [] h x m = absurd (Memᴰ.not-nil m)
+  first_some-none (y ∷ ys) h x (Memᴰ.head q) = by-option (f y) (λ e. cc) (λ b e. apart (cc))
+  first_some-none (y ∷ ys) h x (Memᴰ.tail m) = by-option (f y) (λ e. first_some-none ys (cc) x m) (λ b e. apart (cc))
 
   -- elements that give nothing may be left out
-  pub firstSome-filter : (p : A → Bool) (xs : List A) → ((x : A) → x ∈ xs → p x ≡ false → f x ≡ none) → firstSome f (filter p xs) ≡ firstSome f xs
-  unfolding firstSome filter
-  firstSome-filter p [] h = refl
-  firstSome-filter p (x ∷ xs) h =
-      let rest = firstSome-filter p xs (λ y m. h y (Memᴰ.tail m)) in
+  pub first_some-filter : (p : A → Bool) (xs : List A) → ((x : A) → x ∈ xs → p x ≡ false → f x ≡ none) → first_some f (filter p xs) ≡ first_some f xs
+  unfolding first_some filter
+  first_some-filter p [] h = refl
+  first_some-filter p (x ∷ xs) h =
+      let rest = first_some-filter p xs (λ y m. h y (Memᴰ.tail m)) in
       by-test (p x) (λ e. by-option (f x) (λ q. cc rest) (λ b q. cc)) (λ e. cc (rest, h x (Memᴰ.head refl) e))
 
 module _ {A B : Type 0} (f : A → List B) where

@@ -18,53 +18,53 @@ use Rattle.theory.specs.ListLaws.{filter-in}
 -- ── the element at a place ──
 
 -- an element that is found stands in the list, and each place below the length has one
-pub getElem-in : {A : Type 0} (l : List A) (i : ℕ) (x : A) → get_elem? l i ≡ some x → (i < length l) × (x ∈ l)
-getElem-in [] i x e = none≢some e
-getElem-in (y ∷ l) zero x e = (omega arith, Memᴰ.head (sym (some-injective e)))
-getElem-in (y ∷ l) (suc i) x e = let (h, m) = getElem-in l i x e in (omega arith, Memᴰ.tail m)
+pub get_elem-in : {A : Type 0} (l : List A) (i : ℕ) (x : A) → get_elem? l i ≡ some x → (i < length l) × (x ∈ l)
+get_elem-in [] i x e = none≢some e
+get_elem-in (y ∷ l) zero x e = (omega arith, Memᴰ.head (sym (some-injective e)))
+get_elem-in (y ∷ l) (suc i) x e = let (h, m) = get_elem-in l i x e in (omega arith, Memᴰ.tail m)
 
-pub getElem-of : {A : Type 0} (l : List A) (i : ℕ) → i < length l → (x : A) × (get_elem? l i ≡ some x)
-getElem-of [] i h = absurd (omega arith)
-getElem-of (y ∷ l) zero h = (y, refl)
-getElem-of (y ∷ l) (suc i) h = getElem-of l i (omega arith)
+pub get_elem-of : {A : Type 0} (l : List A) (i : ℕ) → i < length l → (x : A) × (get_elem? l i ≡ some x)
+get_elem-of [] i h = absurd (omega arith)
+get_elem-of (y ∷ l) zero h = (y, refl)
+get_elem-of (y ∷ l) (suc i) h = get_elem-of l i (omega arith)
 
 -- and each element has its place
-pub getElem-at : {A : Type 0} {x : A} {l : List A} → x ∈ l → (i : ℕ) × (get_elem? l i ≡ some x)
-getElem-at (Memᴰ.head e) = (0, ap some (sym e))
-getElem-at (Memᴰ.tail m) = let (i, e) = getElem-at m in (suc i, e)
+pub get_elem-at : {A : Type 0} {x : A} {l : List A} → x ∈ l → (i : ℕ) × (get_elem? l i ≡ some x)
+get_elem-at (Memᴰ.head e) = (0, ap some (sym e))
+get_elem-at (Memᴰ.tail m) = let (i, e) = get_elem-at m in (suc i, e)
 
-pub getElem-left : {A : Type 0} (xs ys : List A) (i : ℕ) (x : A) → get_elem? xs i ≡ some x → get_elem? (xs ++ ys) i ≡ some x
-getElem-left [] ys i x e = none≢some e
-getElem-left (y ∷ xs) ys zero x e = e
-getElem-left (y ∷ xs) ys (suc i) x e = getElem-left xs ys i x e
+pub get_elem-left : {A : Type 0} (xs ys : List A) (i : ℕ) (x : A) → get_elem? xs i ≡ some x → get_elem? (xs ++ ys) i ≡ some x
+get_elem-left [] ys i x e = none≢some e
+get_elem-left (y ∷ xs) ys zero x e = e
+get_elem-left (y ∷ xs) ys (suc i) x e = get_elem-left xs ys i x e
 
-pub getElem-right : {A : Type 0} (xs ys : List A) (i : ℕ) → get_elem? (xs ++ ys) (length xs + i) ≡ get_elem? ys i
-getElem-right [] ys i = let here : 0 + i ≡ i = omega arith in cc
-getElem-right (x ∷ xs) ys i = let behind : suc (length xs) + i ≡ suc (length xs + i) = omega arith in cc (getElem-right xs ys i)
+pub get_elem-right : {A : Type 0} (xs ys : List A) (i : ℕ) → get_elem? (xs ++ ys) (length xs + i) ≡ get_elem? ys i
+get_elem-right [] ys i = let here : 0 + i ≡ i = omega arith in cc
+get_elem-right (x ∷ xs) ys i = let behind : suc (length xs) + i ≡ suc (length xs + i) = omega arith in cc (get_elem-right xs ys i)
 
-pub getD-in : {A : Type 0} (l : List A) (i : ℕ) (d : A) → i < length l → get_or l i d ∈ l
-getD-in [] i d h = absurd (omega arith)
-getD-in (x ∷ l) zero d h = Memᴰ.head refl
-getD-in (x ∷ l) (suc i) d h = Memᴰ.tail (getD-in l i d (omega arith))
+pub get_d-in : {A : Type 0} (l : List A) (i : ℕ) (d : A) → i < length l → get_or l i d ∈ l
+get_d-in [] i d h = absurd (omega arith)
+get_d-in (x ∷ l) zero d h = Memᴰ.head refl
+get_d-in (x ∷ l) (suc i) d h = Memᴰ.tail (get_d-in l i d (omega arith))
 
 -- ── rising numbers ──
 
-pub upFrom-append : (a m k : ℕ) → up_from a (m + k) ≡ up_from a m ++ up_from (a + m) k
+pub up_from-append : (a m k : ℕ) → up_from a (m + k) ≡ up_from a m ++ up_from (a + m) k
 unfolding up_from
-upFrom-append a zero k = let size : 0 + k ≡ k = omega arith in let next : a + 0 ≡ a = omega arith in cc
-upFrom-append a (suc m) k =
+up_from-append a zero k = let size : 0 + k ≡ k = omega arith in let next : a + 0 ≡ a = omega arith in cc
+up_from-append a (suc m) k =
     let size : suc m + k ≡ suc (m + k) = omega arith in
     let next : suc a + m ≡ a + suc m = omega arith in
-    cc (upFrom-append (suc a) m k)
+    cc (up_from-append (suc a) m k)
 
 -- two functions that agree along two ranges
-pub map-upFrom : {A : Type 0} (g h : ℕ → A) (a b k : ℕ) → ((j : ℕ) → j < k → g (a + j) ≡ h (b + j)) → map g (up_from a k) ≡ map h (up_from b k)
+pub map-up_from : {A : Type 0} (g h : ℕ → A) (a b k : ℕ) → ((j : ℕ) → j < k → g (a + j) ≡ h (b + j)) → map g (up_from a k) ≡ map h (up_from b k)
 unfolding up_from
-map-upFrom g h a b zero e = refl
-map-upFrom g h a b (suc k) e =
+map-up_from g h a b zero e = refl
+map-up_from g h a b (suc k) e =
     let a0 : a + 0 ≡ a = omega arith in
     let b0 : b + 0 ≡ b = omega arith in
-    cc (e 0 (omega arith), map-upFrom g h (suc a) (suc b) k later)
+    cc (e 0 (omega arith), map-up_from g h (suc a) (suc b) k later)
   where
     later : (j : ℕ) → j < k → g (suc a + j) ≡ h (suc b + j)
     later j l =
@@ -82,36 +82,36 @@ map-places f g a (x ∷ xs) h =
     cc (h 0 x refl, map-places f g (suc a) xs (λ i y e. let next : suc a + i ≡ a + suc i = omega arith in ap f next ∙ h (suc i) y e))
 
 -- and stands at that place
-pub getD-places : {A : Type 0} (f : ℕ → A) (d : A) (a n i : ℕ) → i < n → get_or (map f (up_from a n)) i d ≡ f (a + i)
+pub get_d-places : {A : Type 0} (f : ℕ → A) (d : A) (a n i : ℕ) → i < n → get_or (map f (up_from a n)) i d ≡ f (a + i)
 unfolding up_from
-getD-places f d a zero i l = absurd (omega arith)
-getD-places f d a (suc n) zero l = let e : a + 0 ≡ a = omega arith in rw e
-getD-places f d a (suc n) (suc i) l = let e : suc a + i ≡ a + suc i = omega arith in getD-places f d (suc a) n i (omega arith) ∙ rw e
+get_d-places f d a zero i l = absurd (omega arith)
+get_d-places f d a (suc n) zero l = let e : a + 0 ≡ a = omega arith in rw e
+get_d-places f d a (suc n) (suc i) l = let e : suc a + i ≡ a + suc i = omega arith in get_d-places f d (suc a) n i (omega arith) ∙ rw e
 
 -- a rising list of numbers holds just those in its range
-pub upFrom-in : (first n c : ℕ) → c ∈ up_from first n → (first ≤ c) × (c < first + n)
+pub up_from-in : (first n c : ℕ) → c ∈ up_from first n → (first ≤ c) × (c < first + n)
 unfolding up_from
-upFrom-in first zero c m = absurd (Memᴰ.not-nil m)
-upFrom-in first (suc n) c m =
+up_from-in first zero c m = absurd (Memᴰ.not-nil m)
+up_from-in first (suc n) c m =
     elim (Memᴰ.cases_cons m) [
       | inl q ↦ (omega arith, omega arith)
-      | inr k ↦ let (a, b) = upFrom-in (suc first) n c k in (omega arith, omega arith)
+      | inr k ↦ let (a, b) = up_from-in (suc first) n c k in (omega arith, omega arith)
     ]
 
 first-or-later : (a b : ℕ) → a ≤ b → (a ≡ b) ⊎ (suc a ≤ b)
 first-or-later a b h = by-test (eqb a b) (λ e. inl (eqb-true a b e)) (λ e. inr (let n = eqb-false a b e in omega arith))
 
-pub in-upFrom : (first n c : ℕ) → first ≤ c → c < first + n → c ∈ up_from first n
+pub in-up_from : (first n c : ℕ) → first ≤ c → c < first + n → c ∈ up_from first n
 unfolding up_from
-in-upFrom first zero c a b = absurd (omega arith)
-in-upFrom first (suc n) c a b =
-    elim (first-or-later first c a) [ inl q ↦ Memᴰ.head (sym q) | inr l ↦ Memᴰ.tail (in-upFrom (suc first) n c l (omega arith)) ]
+in-up_from first zero c a b = absurd (omega arith)
+in-up_from first (suc n) c a b =
+    elim (first-or-later first c a) [ inl q ↦ Memᴰ.head (sym q) | inr l ↦ Memᴰ.tail (in-up_from (suc first) n c l (omega arith)) ]
 
 -- rising numbers differ, and so do those that are kept of them
-pub upFrom-different : (a k : ℕ) → Different (up_from a k)
+pub up_from-different : (a k : ℕ) → Different (up_from a k)
 unfolding up_from
-upFrom-different a zero = tt
-upFrom-different a (suc k) = (λ m. omega (arith, (upFrom-in (suc a) k a m).0), upFrom-different (suc a) k)
+up_from-different a zero = tt
+up_from-different a (suc k) = (λ m. omega (arith, (up_from-in (suc a) k a m).0), up_from-different (suc a) k)
 
 pub filter-different : {A : Type 0} (p : A → Bool) (xs : List A) → Different xs → Different (filter p xs)
 unfolding filter
@@ -150,12 +150,12 @@ module _ {A B : Type 0} (R : A → B → Type 0) where
   Alike (x ∷ xs) [] = ⊥
   Alike (x ∷ xs) (y ∷ ys) = R x y × Alike xs ys
 
-  pub isEmpty-alike : (xs : List A) (ys : List B) → Alike xs ys → is_empty xs ≡ is_empty ys
+  pub is_empty-alike : (xs : List A) (ys : List B) → Alike xs ys → is_empty xs ≡ is_empty ys
   unfolding is_empty
-  isEmpty-alike [] [] h = refl
-  isEmpty-alike [] (y ∷ ys) h = absurd h
-  isEmpty-alike (x ∷ xs) [] h = absurd h
-  isEmpty-alike (x ∷ xs) (y ∷ ys) h = refl
+  is_empty-alike [] [] h = refl
+  is_empty-alike [] (y ∷ ys) h = absurd h
+  is_empty-alike (x ∷ xs) [] h = absurd h
+  is_empty-alike (x ∷ xs) (y ∷ ys) h = refl
 
   module _ (f : A → Bool) (g : B → Bool) (same : (x : A) (y : B) → R x y → f x ≡ g y) where
     pub any-alike : (xs : List A) (ys : List B) → Alike xs ys → any f xs ≡ any g ys

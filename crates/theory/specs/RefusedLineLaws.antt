@@ -9,13 +9,13 @@ use mathlib.Core.List.{List, [], ◌∷◌, ◌++◌}
 use Rattle.std.proofs.Math.ListN.{length}
 use borrow.Author.Tests.{le-leb, leb-true, leb-false}
 use Rattle.definitions.specs.Lists.{◌∈◌, is_empty}
-use Rattle.definitions.specs.Bounds.{sheetBytes, roomBytes, export_bytes}
+use Rattle.definitions.specs.Bounds.{sheet_bytes, room_bytes, export_bytes}
 use Rattle.definitions.specs.Sheet.{Line, lines}
-use Rattle.definitions.specs.Questions.{Asked, no, yes, Draft, readLine, Reading, refused, accepted, readLines, emptyDraft, read}
-use Rattle.definitions.specs.Call.{refusal, searched, answered, Lending, lendings, firstShort, afterLending, result, answer_of, call}
-use Rattle.definitions.specs.Export.{exportLendings, exportResult, exportCall}
-use Rattle.definitions.specs.Sheets.{passes, isBlank}
-use Rattle.definitions.specs.RefusedLines.{linesAsked, RefusedAt, HeadApart}
+use Rattle.definitions.specs.Questions.{Asked, no, yes, Draft, read_line, Reading, refused, accepted, read_lines, empty_draft, read}
+use Rattle.definitions.specs.Call.{refusal, searched, answered, Lending, lendings, first_short, after_lending, result, answer_of, call}
+use Rattle.definitions.specs.Export.{export_lendings, export_result, export_call}
+use Rattle.definitions.specs.Sheets.{passes, is_blank}
+use Rattle.definitions.specs.RefusedLines.{lines_asked, RefusedAt, HeadApart}
 use Rattle.definitions.specs.declared.Refusal.{Refusal}
 use Rattle.definitions.specs.declared.Answer.TheVariants.{Refused}
 use Rattle.theory.specs.Tests.{by-test, by-option, apart}
@@ -36,14 +36,14 @@ record RefusedFrom (d : Draft) (first : ℕ) (ls : List Line) (question line : �
   split : ls ≡ before ++ failing ∷ behind
   number : line ≡ first + length before
   draft : Draft
-  passed : linesAsked d before ≡ yes draft
-  fails : readLine draft failing ≡ no question
+  passed : lines_asked d before ≡ yes draft
+  fails : read_line draft failing ≡ no question
 
-lines-refused : (d : Draft) (first : ℕ) (ls : List Line) (q n : ℕ) → readLines d first ls ≡ refused q n → RefusedFrom d first ls q n
-unfolding readLines linesAsked
+lines-refused : (d : Draft) (first : ℕ) (ls : List Line) (q n : ℕ) → read_lines d first ls ≡ refused q n → RefusedFrom d first ls q n
+unfolding read_lines lines_asked
 lines-refused d first [] q n e = apart (cc)
 lines-refused d first (l ∷ ls) q n e =
-    by-asked (readLine d l)
+    by-asked (read_line d l)
     (λ r f.
     let here : first ≡ n = cc in
     record { before = []; failing = l; behind = ls; split = refl; number = omega (arith, here); draft = d; passed = refl; fails = cc })
@@ -56,19 +56,19 @@ lines-refused d first (l ∷ ls) q n e =
       split = ap (λ (k : List Line). l ∷ k) x.split;
       number = omega (arith, x.number);
       draft = x.draft;
-      passed = yes-bind (readLine d l) _ next x.draft f x.passed;
+      passed = yes-bind (read_line d l) _ next x.draft f x.passed;
       fails = x.fails;
     })
 
 refused-lines : (d : Draft) (first : ℕ) (before : List Line) (l : Line) (behind : List Line) (e : Draft) (q : ℕ)
-    → linesAsked d before ≡ yes e → readLine e l ≡ no q → readLines d first (before ++ l ∷ behind) ≡ refused q (first + length before)
-unfolding readLines linesAsked
+    → lines_asked d before ≡ yes e → read_line e l ≡ no q → read_lines d first (before ++ l ∷ behind) ≡ refused q (first + length before)
+unfolding read_lines lines_asked
 refused-lines d first [] l behind e q passed fails =
     let same : d ≡ e = cc in
     let number : first + 0 ≡ first = omega arith in
     cc
 refused-lines d first (x ∷ before) l behind e q passed fails =
-    let (next, f, rest) = bind-yes (readLine d x) _ e passed in
+    let (next, f, rest) = bind-yes (read_line d x) _ e passed in
     let number : suc first + length before ≡ first + suc (length before) = omega arith in
     cc (refused-lines next (suc first) before l behind e q rest fails)
 
@@ -79,13 +79,13 @@ module _ (sheet : List ℕ) where
   pub read-refused-at : (q n : ℕ) → read sheet ≡ refused q n → 1 ≤ n → RefusedAt sheet q n
   unfolding read
   read-refused-at q n e lined =
-      by-test (leb (length sheet) sheetBytes)
+      by-test (leb (length sheet) sheet_bytes)
       (λ s. by-test (is_empty sheet)
       (λ t. let none : 0 ≡ n = cc in absurd (omega arith))
       (λ t.
-      let x = lines-refused emptyDraft 1 (lines sheet) q n (cc) in
+      let x = lines-refused empty_draft 1 (lines sheet) q n (cc) in
       record {
-        short = leb-true (length sheet) sheetBytes s;
+        short = leb-true (length sheet) sheet_bytes s;
         before = x.before;
         failing = x.failing;
         behind = x.behind;
@@ -101,8 +101,8 @@ module _ (sheet : List ℕ) where
   pub refused-at-read : (q n : ℕ) → RefusedAt sheet q n → read sheet ≡ refused q n
   unfolding read lines
   refused-at-read q n x =
-      let short = le-leb (length sheet) sheetBytes x.short in
-      let rest = refused-lines emptyDraft 1 x.before x.failing x.behind x.draft q x.passed x.fails in
+      let short = le-leb (length sheet) sheet_bytes x.short in
+      let rest = refused-lines empty_draft 1 x.before x.failing x.behind x.draft q x.passed x.fails in
       let number : 1 + length x.before ≡ n = omega (arith, x.number) in
       by-test (is_empty sheet)
       (λ t.
@@ -111,19 +111,19 @@ module _ (sheet : List ℕ) where
       (λ t. cc x.split)
 
   -- a refusal without one
-  pub read-no-line : (q : ℕ) → read sheet ≡ refused q 0 → ((q ≡ 2) × (sheetBytes < length sheet)) ⊎ ((q ≡ 3) × (sheet ≡ []))
+  pub read-no-line : (q : ℕ) → read sheet ≡ refused q 0 → ((q ≡ 2) × (sheet_bytes < length sheet)) ⊎ ((q ≡ 3) × (sheet ≡ []))
   unfolding read
   read-no-line q e =
-      by-test (leb (length sheet) sheetBytes)
+      by-test (leb (length sheet) sheet_bytes)
       (λ s. by-test (is_empty sheet)
       (λ t. inr ((cc), empty-nil sheet t))
-      (λ t. let x = lines-refused emptyDraft 1 (lines sheet) q 0 (cc) in absurd (omega (arith, x.number))))
-      (λ s. inl ((cc), leb-false (length sheet) sheetBytes s))
+      (λ t. let x = lines-refused empty_draft 1 (lines sheet) q 0 (cc) in absurd (omega (arith, x.number))))
+      (λ s. inl ((cc), leb-false (length sheet) sheet_bytes s))
 
 -- ── a line ──
 
 -- one of blanks that passes 4 and 5 fails 7
-pub blank-fails-7 : (d : Draft) (l : Line) (q : ℕ) → readLine d l ≡ no q → passes l ≡ true → isBlank l.bytes ≡ true → q ≡ 7
+pub blank-fails-7 : (d : Draft) (l : Line) (q : ℕ) → read_line d l ≡ no q → passes l ≡ true → is_blank l.bytes ≡ true → q ≡ 7
 blank-fails-7 d l q e p b = no-injective (sym e ∙ blank-line d l p b)
   where
     no-injective : ◌≡◌ {A = Asked Draft} (no q) (no 7) → q ≡ 7
@@ -132,8 +132,8 @@ blank-fails-7 d l q e p b = no-injective (sym e ∙ blank-line d l p b)
 -- ── a call, whatever is lent ──
 
 -- a question about what is lent is that of a room that is too small
-pub short-lent : (ls : List Lending) (q : ℕ) → firstShort ls ≡ some q → (l : Lending) × (l ∈ ls) × (l.question ≡ q) × (l.lent < l.asked)
-unfolding firstShort
+pub short-lent : (ls : List Lending) (q : ℕ) → first_short ls ≡ some q → (l : Lending) × (l ∈ ls) × (l.question ≡ q) × (l.lent < l.asked)
+unfolding first_short
 short-lent [] q e = apart (cc)
 short-lent (l ∷ ls) q e =
     by-test (leb l.asked l.lent)
@@ -149,11 +149,11 @@ refusal-values q n r e =
 
 module _ (ls : List Lending) (sheet : List ℕ) (budget : ℕ) where
   -- a refusal is about what is lent, with line 0, or the sheet's
-  lent-refused : (r : Refusal) → answer_of (afterLending ls sheet budget) ≡ Refused r
-      → ((firstShort ls ≡ some r.number) × (r.line ≡ 0)) ⊎ (read sheet ≡ refused r.number r.line)
-  unfolding afterLending answered searched answer_of
+  lent-refused : (r : Refusal) → answer_of (after_lending ls sheet budget) ≡ Refused r
+      → ((first_short ls ≡ some r.number) × (r.line ≡ 0)) ⊎ (read sheet ≡ refused r.number r.line)
+  unfolding after_lending answered searched answer_of
   lent-refused r e =
-      by-option (firstShort ls)
+      by-option (first_short ls)
       (λ t. inr (from (read sheet) refl (cc)))
       (λ q t. let (number, line) = refusal-values q 0 r (cc) in inl (t ∙ ap some number, sym line))
     where
@@ -167,7 +167,7 @@ module _ (ls : List Lending) (sheet : List ℕ) (budget : ℕ) where
           apart (cc)
 
   -- one with a line speaks of that line;
-  pub lent-refused-at : (r : Refusal) → answer_of (afterLending ls sheet budget) ≡ Refused r → 1 ≤ r.line → RefusedAt sheet r.number r.line
+  pub lent-refused-at : (r : Refusal) → answer_of (after_lending ls sheet budget) ≡ Refused r → 1 ≤ r.line → RefusedAt sheet r.number r.line
   lent-refused-at r e lined =
       elim (lent-refused r e) [
         | inl x ↦ absurd (omega (arith, x.1))
@@ -175,9 +175,9 @@ module _ (ls : List Lending) (sheet : List ℕ) (budget : ℕ) where
       ]
 
   -- one without is about what is lent, or 2 or 3;
-  pub lent-no-line : (r : Refusal) → answer_of (afterLending ls sheet budget) ≡ Refused r → r.line ≡ 0
+  pub lent-no-line : (r : Refusal) → answer_of (after_lending ls sheet budget) ≡ Refused r → r.line ≡ 0
       → ((l : Lending) × (l ∈ ls) × (l.question ≡ r.number) × (l.lent < l.asked))
-      ⊎ (((r.number ≡ 2) × (sheetBytes < length sheet)) ⊎ ((r.number ≡ 3) × (sheet ≡ [])))
+      ⊎ (((r.number ≡ 2) × (sheet_bytes < length sheet)) ⊎ ((r.number ≡ 3) × (sheet ≡ [])))
   lent-no-line r e line =
       elim (lent-refused r e) [
         | inl x ↦ inl (short-lent ls r.number x.0)
@@ -185,7 +185,7 @@ module _ (ls : List Lending) (sheet : List ℕ) (budget : ℕ) where
       ]
 
   -- with 14, if that is no question about what is lent, it speaks of the line of a rule with a head apart;
-  pub lent-14 : ((l : Lending) → l ∈ ls → l.question ≡ 14 → ⊥) → (n : ℕ) → answer_of (afterLending ls sheet budget) ≡ Refused (record { number = 14; line = n })
+  pub lent-14 : ((l : Lending) → l ∈ ls → l.question ≡ 14 → ⊥) → (n : ℕ) → answer_of (after_lending ls sheet budget) ≡ Refused (record { number = 14; line = n })
       → (x : RefusedAt sheet 14 n) × HeadApart x.draft x.failing
   lent-14 other zero e =
       elim (lent-no-line (record { number = 14; line = 0 }) e refl) [
@@ -197,8 +197,8 @@ module _ (ls : List Lending) (sheet : List ℕ) (budget : ℕ) where
       (x, fails-14 x.draft x.failing x.fails)
 
   -- and the first line that fails a question is refused with it, where enough is lent
-  pub refused-at-lent : firstShort ls ≡ none → (q n : ℕ) → RefusedAt sheet q n → answer_of (afterLending ls sheet budget) ≡ Refused (record { number = q; line = n })
-  unfolding afterLending answered answer_of
+  pub refused-at-lent : first_short ls ≡ none → (q n : ℕ) → RefusedAt sheet q n → answer_of (after_lending ls sheet budget) ≡ Refused (record { number = q; line = n })
+  unfolding after_lending answered answer_of
   refused-at-lent enough q n x = let reads = refused-at-read sheet q n x in cc
 
 -- ── the first call ──
@@ -209,7 +209,7 @@ module _ (sheet : List ℕ) (budget : ℕ) (room : List ℕ) where
   call-refused-at = lent-refused-at (lendings (length room)) sheet budget
 
   pub call-no-line : (r : Refusal) → call sheet budget room ≡ Refused r → r.line ≡ 0
-      → ((r.number ≡ 1) × (length room < roomBytes)) ⊎ (((r.number ≡ 2) × (sheetBytes < length sheet)) ⊎ ((r.number ≡ 3) × (sheet ≡ [])))
+      → ((r.number ≡ 1) × (length room < room_bytes)) ⊎ (((r.number ≡ 2) × (sheet_bytes < length sheet)) ⊎ ((r.number ≡ 3) × (sheet ≡ [])))
   unfolding call result lendings
   call-no-line r e line =
       elim (lent-no-line (lendings (length room)) sheet budget r e line) [
@@ -221,23 +221,23 @@ module _ (sheet : List ℕ) (budget : ℕ) (room : List ℕ) where
   unfolding call result lendings
   call-14 = lent-14 (lendings (length room)) sheet budget (λ l m e. let same = Memᴰ.eq_of_singleton m in apart (cc))
 
-  pub refused-at-call : roomBytes ≤ length room → (q n : ℕ) → RefusedAt sheet q n → call sheet budget room ≡ Refused (record { number = q; line = n })
+  pub refused-at-call : room_bytes ≤ length room → (q n : ℕ) → RefusedAt sheet q n → call sheet budget room ≡ Refused (record { number = q; line = n })
   unfolding call result
   refused-at-call large = refused-at-lent (lendings (length room)) sheet budget (enough-room (length room) large)
 
 -- ── the export ──
 
 module _ (sheet : List ℕ) (budget : ℕ) (room export : List ℕ) where
-  pub export-refused-at : (r : Refusal) → exportCall sheet budget room export ≡ Refused r → 1 ≤ r.line → RefusedAt sheet r.number r.line
-  unfolding exportCall exportResult
-  export-refused-at = lent-refused-at (exportLendings (length room) (length export)) sheet budget
+  pub export-refused-at : (r : Refusal) → export_call sheet budget room export ≡ Refused r → 1 ≤ r.line → RefusedAt sheet r.number r.line
+  unfolding export_call export_result
+  export-refused-at = lent-refused-at (export_lendings (length room) (length export)) sheet budget
 
-  pub export-no-line : (r : Refusal) → exportCall sheet budget room export ≡ Refused r → r.line ≡ 0
-      → ((r.number ≡ 1) × (length room < roomBytes)) ⊎ (((r.number ≡ 15) × (length export < export_bytes))
-      ⊎ (((r.number ≡ 2) × (sheetBytes < length sheet)) ⊎ ((r.number ≡ 3) × (sheet ≡ []))))
-  unfolding exportCall exportResult exportLendings lendings
+  pub export-no-line : (r : Refusal) → export_call sheet budget room export ≡ Refused r → r.line ≡ 0
+      → ((r.number ≡ 1) × (length room < room_bytes)) ⊎ (((r.number ≡ 15) × (length export < export_bytes))
+      ⊎ (((r.number ≡ 2) × (sheet_bytes < length sheet)) ⊎ ((r.number ≡ 3) × (sheet ≡ []))))
+  unfolding export_call export_result export_lendings lendings
   export-no-line r e line =
-      elim (lent-no-line (exportLendings (length room) (length export)) sheet budget r e line) [
+      elim (lent-no-line (export_lendings (length room) (length export)) sheet budget r e line) [
         | inl x ↦
             let (l, m, is, less) = x in
             elim (Memᴰ.cases_cons m) [
@@ -247,14 +247,14 @@ module _ (sheet : List ℕ) (budget : ℕ) (room export : List ℕ) where
         | inr y ↦ inr (inr y)
       ]
 
-  pub export-14 : (n : ℕ) → exportCall sheet budget room export ≡ Refused (record { number = 14; line = n })
+  pub export-14 : (n : ℕ) → export_call sheet budget room export ≡ Refused (record { number = 14; line = n })
       → (x : RefusedAt sheet 14 n) × HeadApart x.draft x.failing
-  unfolding exportCall exportResult exportLendings lendings
+  unfolding export_call export_result export_lendings lendings
   export-14 =
-      lent-14 (exportLendings (length room) (length export)) sheet budget
+      lent-14 (export_lendings (length room) (length export)) sheet budget
       (λ l m e. elim (Memᴰ.cases_cons m) [ inl same ↦ apart (cc) | inr n ↦ let same = Memᴰ.eq_of_singleton n in apart (cc) ])
 
-  pub refused-at-export : roomBytes ≤ length room → export_bytes ≤ length export → (q n : ℕ) → RefusedAt sheet q n
-      → exportCall sheet budget room export ≡ Refused (record { number = q; line = n })
-  unfolding exportCall exportResult
-  refused-at-export large wide = refused-at-lent (exportLendings (length room) (length export)) sheet budget (enough-rooms (length room) (length export) large wide)
+  pub refused-at-export : room_bytes ≤ length room → export_bytes ≤ length export → (q n : ℕ) → RefusedAt sheet q n
+      → export_call sheet budget room export ≡ Refused (record { number = q; line = n })
+  unfolding export_call export_result
+  refused-at-export large wide = refused-at-lent (export_lendings (length room) (length export)) sheet budget (enough-rooms (length room) (length export) large wide)

@@ -8,12 +8,12 @@ use mathlib.Core.List.Memᴰ
 use Rattle.std.proofs.lemmas.List.{map-append}
 use Rattle.std.proofs.Math.ListN.{length, length-map}
 use Rattle.definitions.specs.Lists.{◌∈◌, up_from}
-use Rattle.definitions.specs.Words.{Literal, plain, Term, variable, constant, Pattern, Rule, Problem, goalAtoms}
-use Rattle.definitions.specs.Instances.{Substitution, termValue, ground, isVariable, occursIn, variables, substitutions, Instance, fill, task_of}
-use Rattle.definitions.specs.Search.{isFalse, Logged, clauseOf, State, done, search}
+use Rattle.definitions.specs.Words.{Literal, plain, Term, variable, constant, Pattern, Rule, Problem, goal_atoms}
+use Rattle.definitions.specs.Instances.{Substitution, term_value, ground, is_variable, occurs_in, variables, substitutions, Instance, fill, task_of}
+use Rattle.definitions.specs.Search.{is_false, Logged, clause_of, State, done, search}
 use Rattle.definitions.specs.declared.Verdict.{Verdict}
 use Rattle.theory.specs.ListLaws.{any_of, filter-of, Each, each_append}
-use Rattle.theory.specs.PlaceLaws.{in-upFrom}
+use Rattle.theory.specs.PlaceLaws.{in-up_from}
 use Rattle.theory.specs.WordLaws.{negate-atom, goal-from}
 use Rattle.theory.specs.SearchLaws.{clause-cases}
 use Rattle.theory.specs.InstanceLaws.{substitution-sound, only-fillings, filled-rule, filled-heads, filled-body}
@@ -25,21 +25,21 @@ use Rattle.theory.specs.Limits.{TermLimits, PatternLimits, LiteralLimits, Within
 use Rattle.theory.specs.ListingLaws.{AtomListable, LoggedListable, Listable}
 
 -- an instance has its rule's heads
-pub instance-heads : {ruleLimit clauseLimit : ℕ} (p : Problem) → Within ruleLimit clauseLimit p → (i : Instance) → i ∈ (task_of p).instances → length i.heads ≤ 3
+pub instance-heads : {rule_limit clause_limit : ℕ} (p : Problem) → Within rule_limit clause_limit p → (i : Instance) → i ∈ (task_of p).instances → length i.heads ≤ 3
 instance-heads p limits i m =
     let f = only-fillings p i m in
-    omega (arith, ap length (filled-heads f), length-map f.rule.heads (ground f.filling), (limits.eachRule f.rule (filled-rule f).1).heads)
+    omega (arith, ap length (filled-heads f), length-map f.rule.heads (ground f.filling), (limits.each_rule f.rule (filled-rule f).1).heads)
 
 -- a variable of a literal of the rule is one of the rule's
 pub variable-in : (r : Rule) (x : Pattern) → x ∈ r.heads ++ r.body → (v : ℕ) → variable v ∈ x.terms → 1 ≤ v → v ≤ 6 → v ∈ variables r
-unfolding variables occursIn isVariable
+unfolding variables occurs_in is_variable
 variable-in r x m v n l h =
-    filter-of _ (up_from 1 6) v (in-upFrom 1 6 v l (omega arith)) (any_of _ (r.heads ++ r.body) x m (any_of _ x.terms (variable v) n (eq-eqb v v refl)))
+    filter-of _ (up_from 1 6) v (in-up_from 1 6 v l (omega arith)) (any_of _ (r.heads ++ r.body) x m (any_of _ x.terms (variable v) n (eq-eqb v v refl)))
 
 -- a filled literal of a rule keeps the limits
 module _ (p : Problem) (r : Rule) (f : Substitution) (inside : f ∈ substitutions p.constants (variables r)) (x : Pattern) (its : x ∈ r.heads ++ r.body) where
-  term-limits : (t : Term) → t ∈ x.terms → TermLimits p t → Between 1 p.constants (termValue f t)
-  unfolding termValue
+  term-limits : (t : Term) → t ∈ x.terms → TermLimits p t → Between 1 p.constants (term_value f t)
+  unfolding term_value
   term-limits (variable v) m l = substitution-sound p.constants (variables r) f inside v (variable-in r x its v m l.0 l.1)
   term-limits (constant c) m l = l
 
@@ -49,8 +49,8 @@ module _ (p : Problem) (r : Rule) (f : Substitution) (inside : f ∈ substitutio
       record {
         symbol = l.symbol;
         declared = l.declared;
-        args = length-map x.terms (termValue f) ∙ l.terms;
-        in_range = λ c m. let (t, n, q) = Memᴰ.of_map (termValue f) x.terms m in subst (Between 1 p.constants) q (term-limits t n (l.in_range t n));
+        args = length-map x.terms (term_value f) ∙ l.terms;
+        in_range = λ c m. let (t, n, q) = Memᴰ.of_map (term_value f) x.terms m in subst (Between 1 p.constants) q (term-limits t n (l.in_range t n));
       }
 
 module _ (p : Problem) (limits : Limits p) where
@@ -67,13 +67,13 @@ module _ (p : Problem) (limits : Limits p) where
   instance-limits : (i : Instance) → i ∈ (task_of p).instances → Each (LiteralLimits p) (i.heads ++ i.body)
   instance-limits i m l n =
       let f = only-fillings p i m in
-      let r = limits.eachRule f.rule (filled-rule f).1 in
+      let r = limits.each_rule f.rule (filled-rule f).1 in
       let patterns = f.rule.heads ++ f.rule.body in
       let both : i.heads ++ i.body ≡ map (ground f.filling) patterns
       = cc (filled-heads f, filled-body f, map-append (ground f.filling) f.rule.heads f.rule.body) in
       let (x, j, q) = Memᴰ.of_map (ground f.filling) patterns (rw both at n) in
       subst (LiteralLimits p) q (
-      filled-limits p f.rule f.filling f.inside x j (each_append (PatternLimits p) f.rule.heads r.eachHead r.eachBody x j))
+      filled-limits p f.rule f.filling f.inside x j (each_append (PatternLimits p) f.rule.heads r.each_head r.each_body x j))
 
   -- the limits are of a literal's atom
   same-limits : (l m : Literal) → l.atom ≡ m.atom → LiteralLimits p l → LiteralLimits p m
@@ -83,7 +83,7 @@ module _ (p : Problem) (limits : Limits p) where
   -- where a search ends, with whatever budget
   module _ (budget : ℕ) (v : Verdict) (s : State) (e : search p budget ≡ done v s) where
     -- the literals of a logged clause keep the limits
-    pub logged-limits : (g : Logged) → g ∈ s.log → Each (LiteralLimits p) (clauseOf g)
+    pub logged-limits : (g : Logged) → g ∈ s.log → Each (LiteralLimits p) (clause_of g)
     logged-limits g m l n =
         let ok = logged-ok p budget v s e g m in
         let each = instance-limits g.instance ok.its in
@@ -110,20 +110,20 @@ module _ (p : Problem) (limits : Limits p) where
     table-limits l m =
         elim (search-sourced (task_of p) budget v s e l.atom m) [
           | inl g ↦ let c = goal-from p.clauses l.atom g in
-              same-limits c.literal l c.atom ((limits.eachClause c.clause c.its).eachLiteral c.literal c.inside)
+              same-limits c.literal l c.atom ((limits.each_clause c.clause c.its).each_literal c.literal c.inside)
           | inr b ↦ let inside = Memᴰ.append_right b.instance.heads b.inside in
               same-limits b.literal l (sym b.atom) (instance-limits b.instance b.its b.literal inside)
         ]
 
   -- every state in which a search ends can be listed
   pub search-listable : (budget : ℕ) → budget < 2 ^ 32 → (v : Verdict) (s : State) → search p budget ≡ done v s → Listable s
-  unfolding search task_of isFalse plain
+  unfolding search task_of is_false plain
   search-listable budget h v s e =
-      let (tableSize, logSize) = limits-kept (task_of p) budget v s few e in
+      let (table_size, log_size) = limits-kept (task_of p) budget v s few e in
       let decided = decisions-within-budget (task_of p) budget v s e in
       record {
-        table = tableSize;
-        log = logSize;
+        table = table_size;
+        log = log_size;
         decisions = omega arith;
         conflicts = omega (arith, conflicts-at-most-decisions-plus-1 (task_of p) budget v s e);
         atoms = λ a m. literal-listable (plain a) (table-limits budget v s e (plain a) m);
@@ -131,5 +131,5 @@ module _ (p : Problem) (limits : Limits p) where
         settled = λ a m. consistent (task_of p) (search-tells (task_of p) budget v s e).0.trailed (plain a);
       }
     where
-      few : length (goalAtoms p.clauses) ≤ 256
+      few : length (goal_atoms p.clauses) ≤ 256
       few = omega (arith, limits.goals)

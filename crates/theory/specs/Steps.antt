@@ -8,7 +8,7 @@ use Rattle.std.proofs.Common.{arith}
 use Rattle.std.proofs.Math.Dec.{ltb}
 use Rattle.definitions.specs.Words.{Atom, Literal}
 use Rattle.definitions.specs.Instances.{Instance, Task}
-use Rattle.definitions.specs.Search.{Trail, State, Act, conflict, force, nextAct, nextInstance, loggedOf, nextGoal, backtrack, setUnit, logInstance, decide, afterConflict, Outcome, more, done, onConflict, onAct, hasRoom, onLogged, onGoal, step, run}
+use Rattle.definitions.specs.Search.{Trail, State, Act, conflict, force, next_act, next_instance, logged_of, next_goal, backtrack, set_unit, log_instance, decide, after_conflict, Outcome, more, done, on_conflict, on_act, has_room, on_logged, on_goal, step, run}
 use Rattle.definitions.specs.declared.Verdict.{Verdict}
 use Rattle.definitions.specs.declared.Verdict.TheVariants.{Unsat, Unknown, Spent, Full}
 
@@ -16,64 +16,64 @@ module _ (k : Task) (budget : ℕ) (s : State) where
   -- what a step leads to, with what it found: a unit, a conflict that is undone or not, an instance that is logged or
   -- finds no room, a decision that is made or would exceed the budget, nothing at all
   pub data Step : Outcome → Type 0 where
-    unit : (l : Literal) → nextAct k s ≡ some (force l) → Step (more (setUnit s l))
-    undone : (t : Trail) → nextAct k s ≡ some conflict → backtrack s.trail ≡ some t → Step (more (afterConflict s t))
-    refuted : nextAct k s ≡ some conflict → backtrack s.trail ≡ none → Step (done Unsat (afterConflict s s.trail))
-    logs : (i : Instance) → nextAct k s ≡ none → nextInstance k s ≡ some i → hasRoom s (loggedOf s.trail i) ≡ true
-        → Step (more (logInstance s (loggedOf s.trail i)))
-    overflows : (i : Instance) → nextAct k s ≡ none → nextInstance k s ≡ some i → hasRoom s (loggedOf s.trail i) ≡ false
+    unit : (l : Literal) → next_act k s ≡ some (force l) → Step (more (set_unit s l))
+    undone : (t : Trail) → next_act k s ≡ some conflict → backtrack s.trail ≡ some t → Step (more (after_conflict s t))
+    refuted : next_act k s ≡ some conflict → backtrack s.trail ≡ none → Step (done Unsat (after_conflict s s.trail))
+    logs : (i : Instance) → next_act k s ≡ none → next_instance k s ≡ some i → has_room s (logged_of s.trail i) ≡ true
+        → Step (more (log_instance s (logged_of s.trail i)))
+    overflows : (i : Instance) → next_act k s ≡ none → next_instance k s ≡ some i → has_room s (logged_of s.trail i) ≡ false
         → Step (done Full s)
-    decides : (a : Atom) → nextAct k s ≡ none → nextInstance k s ≡ none → nextGoal k s ≡ some a → ltb s.decisions budget ≡ true
+    decides : (a : Atom) → next_act k s ≡ none → next_instance k s ≡ none → next_goal k s ≡ some a → ltb s.decisions budget ≡ true
         → Step (more (decide s a))
-    overspends : (a : Atom) → nextAct k s ≡ none → nextInstance k s ≡ none → nextGoal k s ≡ some a → ltb s.decisions budget ≡ false
+    overspends : (a : Atom) → next_act k s ≡ none → next_instance k s ≡ none → next_goal k s ≡ some a → ltb s.decisions budget ≡ false
         → Step (done Spent s)
-    rests : nextAct k s ≡ none → nextInstance k s ≡ none → nextGoal k s ≡ none → Step (done Unknown s)
+    rests : next_act k s ≡ none → next_instance k s ≡ none → next_goal k s ≡ none → Step (done Unknown s)
 
-  from-conflict : (o : Option Trail) → backtrack s.trail ≡ o → nextAct k s ≡ some conflict
-      → Step (elim o [ some t ↦ more (afterConflict s t) | none ↦ done Unsat (afterConflict s s.trail) ])
+  from-conflict : (o : Option Trail) → backtrack s.trail ≡ o → next_act k s ≡ some conflict
+      → Step (elim o [ some t ↦ more (after_conflict s t) | none ↦ done Unsat (after_conflict s s.trail) ])
   from-conflict none e a = refuted a e
   from-conflict (some t) e a = undone t a e
 
-  from-act : (a : Act) → nextAct k s ≡ some a → Step (onAct s a)
-  unfolding onAct onConflict
+  from-act : (a : Act) → next_act k s ≡ some a → Step (on_act s a)
+  unfolding on_act on_conflict
   from-act conflict e = from-conflict (backtrack s.trail) refl e
   from-act (force l) e = unit l e
 
-  from-instance : (i : Instance) → nextAct k s ≡ none → nextInstance k s ≡ some i → Step (onLogged s (loggedOf s.trail i))
-  unfolding onLogged
-  from-instance i a e = room (hasRoom s (loggedOf s.trail i)) refl
+  from-instance : (i : Instance) → next_act k s ≡ none → next_instance k s ≡ some i → Step (on_logged s (logged_of s.trail i))
+  unfolding on_logged
+  from-instance i a e = room (has_room s (logged_of s.trail i)) refl
     where
-      room : (b : Bool) → hasRoom s (loggedOf s.trail i) ≡ b
-          → Step (elim b [ true ↦ more (logInstance s (loggedOf s.trail i)) | false ↦ done Full s ])
+      room : (b : Bool) → has_room s (logged_of s.trail i) ≡ b
+          → Step (elim b [ true ↦ more (log_instance s (logged_of s.trail i)) | false ↦ done Full s ])
       room true h = logs i a e h
       room false h = overflows i a e h
 
-  from-goal : (a : Atom) → nextAct k s ≡ none → nextInstance k s ≡ none → nextGoal k s ≡ some a → Step (onGoal budget s a)
-  unfolding onGoal
+  from-goal : (a : Atom) → next_act k s ≡ none → next_instance k s ≡ none → next_goal k s ≡ some a → Step (on_goal budget s a)
+  unfolding on_goal
   from-goal a n m e = budgeted (ltb s.decisions budget) refl
     where
       budgeted : (b : Bool) → ltb s.decisions budget ≡ b → Step (elim b [ true ↦ more (decide s a) | false ↦ done Spent s ])
       budgeted true h = decides a n m e h
       budgeted false h = overspends a n m e h
 
-  without-instance : (o : Option Atom) → nextGoal k s ≡ o → nextAct k s ≡ none → nextInstance k s ≡ none
-      → Step (elim o [ some a ↦ onGoal budget s a | none ↦ done Unknown s ])
+  without-instance : (o : Option Atom) → next_goal k s ≡ o → next_act k s ≡ none → next_instance k s ≡ none
+      → Step (elim o [ some a ↦ on_goal budget s a | none ↦ done Unknown s ])
   without-instance none e n m = rests n m e
   without-instance (some a) e n m = from-goal a n m e
 
-  without-act : (o : Option Instance) → nextInstance k s ≡ o → nextAct k s ≡ none
-      → Step (elim o [ some i ↦ onLogged s (loggedOf s.trail i) | none ↦ elim (nextGoal k s) [ some a ↦ onGoal budget s a | none ↦ done Unknown s ] ])
-  without-act none e n = without-instance (nextGoal k s) refl n e
+  without-act : (o : Option Instance) → next_instance k s ≡ o → next_act k s ≡ none
+      → Step (elim o [ some i ↦ on_logged s (logged_of s.trail i) | none ↦ elim (next_goal k s) [ some a ↦ on_goal budget s a | none ↦ done Unknown s ] ])
+  without-act none e n = without-instance (next_goal k s) refl n e
   without-act (some i) e n = from-instance i n e
 
   -- every step is of one of these kinds
   pub kind : Step (step k budget s)
   unfolding step
-  kind = by-act (nextAct k s) refl
+  kind = by-act (next_act k s) refl
     where
-      by-act : (o : Option Act) → nextAct k s ≡ o
-          → Step (elim o [ some a ↦ onAct s a | none ↦ elim (nextInstance k s) [ some i ↦ onLogged s (loggedOf s.trail i) | none ↦ elim (nextGoal k s) [ some a ↦ onGoal budget s a | none ↦ done Unknown s ] ] ])
-      by-act none e = without-act (nextInstance k s) refl e
+      by-act : (o : Option Act) → next_act k s ≡ o
+          → Step (elim o [ some a ↦ on_act s a | none ↦ elim (next_instance k s) [ some i ↦ on_logged s (logged_of s.trail i) | none ↦ elim (next_goal k s) [ some a ↦ on_goal budget s a | none ↦ done Unknown s ] ] ])
+      by-act none e = without-act (next_instance k s) refl e
       by-act (some a) e = from-act a e
 
 -- what holds after a step: the invariant of the next state, or what the answer tells

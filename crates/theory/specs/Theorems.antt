@@ -3,16 +3,16 @@
 use Rattle.std.specs.Prelude.{ℕ, suc, ◌^◌, ◌≤◌, ◌<◌, ◌≡◌, refl, List, length}
 use Rattle.std.proofs.Math.Option.{Option, none, some}
 use Rattle.std.proofs.Common.{arith}
-use Rattle.definitions.specs.Bounds.{roomBytes}
+use Rattle.definitions.specs.Bounds.{room_bytes}
 use Rattle.definitions.specs.Lists.{◌∈◌, Different}
-use Rattle.definitions.specs.Words.{Problem, goalAtoms}
+use Rattle.definitions.specs.Words.{Problem, goal_atoms}
 use Rattle.definitions.specs.Instances.{task_of}
 use Rattle.definitions.specs.Meaning.{Choice, Fails}
 use Rattle.definitions.specs.Questions.{Reading, refused, accepted, read}
 use Rattle.definitions.specs.Search.{State, Outcome, done, search}
 use Rattle.definitions.specs.Verdicts.{FirstChoice, SpentWhen, FullWhen}
-use Rattle.definitions.specs.Listing.{Field, listingLines, listing}
-use Rattle.definitions.specs.Call.{refusal, unended, searched, answered, Lending, firstShort, afterLending}
+use Rattle.definitions.specs.Listing.{Field, listing_lines, listing}
+use Rattle.definitions.specs.Call.{refusal, unended, searched, answered, Lending, first_short, after_lending}
 use Rattle.definitions.specs.declared.Verdict.{Verdict}
 use Rattle.definitions.specs.declared.Verdict.TheVariants.{Unsat, Unknown, Spent, Full}
 use Rattle.theory.specs.Tests.{apart}
@@ -26,7 +26,7 @@ use Rattle.theory.specs.ListingLaws.{FieldFits, listing-fits, listing-length}
 use Rattle.theory.specs.Sizes.{search-listable}
 
 module _ (sheet : List ℕ) (p : Problem) (reads : read sheet ≡ accepted p) (budget : ℕ) where
-  goals : length (goalAtoms (task_of p).clauses) ≤ 256
+  goals : length (goal_atoms (task_of p).clauses) ≤ 256
   unfolding task_of
   goals = omega (arith, (accepted-limits sheet p reads).goals)
 
@@ -75,16 +75,16 @@ module _ (sheet : List ℕ) (p : Problem) (reads : read sheet ≡ accepted p) (b
     logged-once = no-instance-logged-twice (task_of p) budget v s e
 
     -- the listing, at a 32-bit budget: at most 45,056 bytes, and every number fits its column
-    pub listing-at-most : budget < 2 ^ 32 → length (listing v s) ≤ roomBytes
+    pub listing-at-most : budget < 2 ^ 32 → length (listing v s) ≤ room_bytes
     listing-at-most h = omega (arith, listing-length v s (search-listable p (accepted-limits sheet p reads) budget h v s e))
 
-    pub listing-columns-fit : budget < 2 ^ 32 → (line : List Field) → line ∈ listingLines v s → (f : Field) → f ∈ line → FieldFits f
+    pub listing-columns-fit : budget < 2 ^ 32 → (line : List Field) → line ∈ listing_lines v s → (f : Field) → f ∈ line → FieldFits f
     listing-columns-fit h = listing-fits v s (search-listable p (accepted-limits sheet p reads) budget h v s e)
 
 -- so every call, on whatever bytes, at whatever budget and with whatever is lent, is refused or comes to one of the four answers
-pub call-comes-to-an-end : (ls : List Lending) (sheet : List ℕ) (budget : ℕ) → afterLending ls sheet budget ≡ unended → ⊥
-unfolding afterLending answered searched
-call-comes-to-an-end ls sheet budget e = from-lent (firstShort ls) e
+pub call-comes-to-an-end : (ls : List Lending) (sheet : List ℕ) (budget : ℕ) → after_lending ls sheet budget ≡ unended → ⊥
+unfolding after_lending answered searched
+call-comes-to-an-end ls sheet budget e = from-lent (first_short ls) e
   where
     from-outcome : (o : Outcome) → IsDone o → searched o ≡ unended → ⊥
     from-outcome o d h = let q = d.is in apart (cc)

@@ -7,13 +7,13 @@ use Rattle.std.proofs.Math.Logic.{inl, inr}
 use Rattle.std.proofs.Math.Option.{Option, none, some}
 use mathlib.Core.List.Memᴰ
 use Rattle.definitions.specs.Lists.{◌∈◌, all}
-use Rattle.definitions.specs.Words.{Atom, Literal, negate, plain, Clause, goalAtoms}
+use Rattle.definitions.specs.Words.{Atom, Literal, negate, plain, Clause, goal_atoms}
 use Rattle.definitions.specs.Instances.{Instance, Task}
-use Rattle.definitions.specs.Search.{Why, decided, flipped, forced, Entry, Trail, isTrue, isFalse, isUnset, Logged, clauseOf, State, Act, conflict, force, isGoal, nextAct, nextGoal, backtrack}
+use Rattle.definitions.specs.Search.{Why, decided, flipped, forced, Entry, Trail, is_true, is_false, is_unset, Logged, clause_of, State, Act, conflict, force, is_goal, next_act, next_goal, backtrack}
 use Rattle.theory.specs.Tests.{apart, true-and-false, or_cases}
 use Rattle.theory.specs.ListLaws.{at_split, in-along, all-each}
 use Rattle.theory.specs.WordLaws.{negate-negate, negate-atom, goal-of}
-use Rattle.theory.specs.SearchLaws.{true-at, unset-not-false, unset-negate, clause-cases, conflict-false, IsUnit, force-unit, Alone, isGoal-in, mayLogged, act-from, goal-first}
+use Rattle.theory.specs.SearchLaws.{true-at, unset-not-false, unset-negate, clause-cases, conflict-false, IsUnit, force-unit, Alone, is_goal-in, may_logged, act-from, goal-first}
 
 -- candidates for an answer: the literals that each has, what it is that rules one out, and the logged clauses that it has
 -- to obey. One that is ruled out has every literal, so that nothing need be shown of it
@@ -28,7 +28,7 @@ pub record World : Type 1 where
 pub record Gave (k : Task) (t : Trail) (l : Literal) : Type 0 where
   pub instance : Instance
   pub its : instance ∈ k.instances
-  pub heads : (h : Literal) → h ∈ instance.heads → isTrue t h ≡ true
+  pub heads : (h : Literal) → h ∈ instance.heads → is_true t h ≡ true
   pub inside : l ∈ instance.body
 
 -- the entry is a decision: a goal atom, at true, with every goal atom before it set
@@ -37,8 +37,8 @@ pub record Decision (k : Task) (t : Trail) (e : Entry) : Type 0 where
   pub positive : e.literal ≡ plain e.literal.atom
   pub before : List Atom
   pub after : List Atom
-  pub split : goalAtoms k.clauses ≡ before ++ (e.literal.atom ∷ after)
-  pub settled : (a : Atom) → a ∈ before → isUnset t (plain a) ≡ false
+  pub split : goal_atoms k.clauses ≡ before ++ (e.literal.atom ∷ after)
+  pub settled : (a : Atom) → a ∈ before → is_unset t (plain a) ≡ false
 
 -- a logged clause comes from its instance
 pub record LogOk (k : Task) (g : Logged) : Type 0 where
@@ -52,7 +52,7 @@ flipped≢decided q = apart (cc)
 forced≢decided : forced ≡ decided → ⊥
 forced≢decided q = apart (cc)
 
-pub decision-goal : (k : Task) (t : Trail) (e : Entry) → Decision k t e → e.literal.atom ∈ goalAtoms k.clauses
+pub decision-goal : (k : Task) (t : Trail) (e : Entry) → Decision k t e → e.literal.atom ∈ goal_atoms k.clauses
 decision-goal k t e d = in-along d.split (at_split d.before d.after)
 
 module _ (k : Task) (W : World) where
@@ -76,18 +76,18 @@ module _ (k : Task) (W : World) where
   pub record Consequence (t : Trail) (e : Entry) : Type 0 where
     pub isnt : e.why ≡ decided → ⊥
     pub must : Must t e.literal
-    pub source : (e.literal.atom ∈ goalAtoms k.clauses) ⊎ Gave k t e.literal
+    pub source : (e.literal.atom ∈ goal_atoms k.clauses) ⊎ Gave k t e.literal
 
   pub data Ok : Trail → Type 0 where
     bare : Ok []
-    next : {e : Entry} {t : Trail} → isUnset t e.literal ≡ true → Decision k t e ⊎ Consequence t e → Ok t → Ok (e ∷ t)
+    next : {e : Entry} {t : Trail} → is_unset t e.literal ≡ true → Decision k t e ⊎ Consequence t e → Ok t → Ok (e ∷ t)
 
   -- what is asked of candidates: each has one literal of every goal atom, a goal clause or a logged clause that it makes false rules it
   -- out, and with the heads of a logged clause it has the literal that was taken
   pub record Laws : Type 0 where
-    pub total : (x : W.Candidate) (l : Literal) → l.atom ∈ goalAtoms k.clauses → W.has x l ⊎ W.has x (negate l)
+    pub total : (x : W.Candidate) (l : Literal) → l.atom ∈ goal_atoms k.clauses → W.has x l ⊎ W.has x (negate l)
     pub goals : (c : Clause) → c ∈ k.clauses → Refutes c
-    pub logged : (g : Logged) → W.obeyed g → Refutes (clauseOf g)
+    pub logged : (g : Logged) → W.obeyed g → Refutes (clause_of g)
     pub gives : (g : Logged) → W.obeyed g → (l : Literal) → g.taken ≡ some l → (x : W.Candidate)
         → ((h : Literal) → h ∈ g.instance.heads → W.has x h) → W.has x l
 
@@ -115,15 +115,15 @@ module _ (k : Task) (W : World) where
       latest q (inl c) = a e m (ap (λ (y : Entry). y.why) q ∙ c.is)
       latest q (inr c) = subst (λ (y : Entry). W.has x y.literal) (sym q) (c.must x (agrees-tail x d t a))
 
-  pub true-must : {t : Trail} → Ok t → (l : Literal) → isTrue t l ≡ true → Must t l
+  pub true-must : {t : Trail} → Ok t → (l : Literal) → is_true t l ≡ true → Must t l
   true-must {t} o l h x a = let p = true-at t l h in subst (W.has x) p.its (entry-had o x a p.entry p.inside)
 
   -- ── unit propagation ──
 
   pub record UnitOk (t : Trail) (l : Literal) : Type 0 where
-    pub unset : isUnset t l ≡ true
+    pub unset : is_unset t l ≡ true
     pub must : Must t l
-    pub source : (l.atom ∈ goalAtoms k.clauses) ⊎ Gave k t l
+    pub source : (l.atom ∈ goal_atoms k.clauses) ⊎ Gave k t l
 
   -- what step A found: the decisions rule out everything, or a literal that follows from them
   abbrev pub ActOk : Trail → Act → Type 0
@@ -137,13 +137,13 @@ module _ (k : Task) (W : World) where
 
   module _ (laws : Laws) where
     module _ {t : Trail} (o : Ok t) where
-      conflict-never : (c : Clause) → Refutes c → ((l : Literal) → l ∈ c → isFalse t l ≡ true) → Never t
-      unfolding isFalse
+      conflict-never : (c : Clause) → Refutes c → ((l : Literal) → l ∈ c → is_false t l ≡ true) → Never t
+      unfolding is_false
       conflict-never c r f x a = r x (λ l m. true-must o (negate l) (f l m) x a)
 
       -- a literal of a goal atom that stands alone is had, since its negation would refute the clause
-      alone-must : (c : Clause) → Refutes c → (l : Literal) → Alone t c l → l.atom ∈ goalAtoms k.clauses → Must t l
-      unfolding isFalse
+      alone-must : (c : Clause) → Refutes c → (l : Literal) → Alone t c l → l.atom ∈ goal_atoms k.clauses → Must t l
+      unfolding is_false
       alone-must c r l f g x a =
           elim (laws.total x l g) [
             | inl y ↦ y
@@ -153,26 +153,26 @@ module _ (k : Task) (W : World) where
             ]))
           ]
 
-      goal-act : (c : Clause) → c ∈ k.clauses → (l : Literal) → IsUnit t (isGoal k) c l → UnitOk t l
+      goal-act : (c : Clause) → c ∈ k.clauses → (l : Literal) → IsUnit t (is_goal k) c l → UnitOk t l
       goal-act c i l u =
           let g = goal-of k.clauses c l i u.inside in
           record { unset = u.unset; must = alone-must c (laws.goals c i) l u.alone g; source = inl g }
 
       -- where all heads are true, the unset literal is the one that the instance gives
-      taken_of : (g : Logged) (l : Literal) → l ∈ clauseOf g → isUnset t l ≡ true → all (isTrue t) g.instance.heads ≡ true → g.taken ≡ some l
-      unfolding isFalse
+      taken_of : (g : Logged) (l : Literal) → l ∈ clause_of g → is_unset t l ≡ true → all (is_true t) g.instance.heads ≡ true → g.taken ≡ some l
+      unfolding is_false
       taken_of g l m u h =
           elim (clause-cases g l m) [
-            | inl r ↦ true-and-false (all-each (isTrue t) g.instance.heads h r.0 r.1) (subst (λ (y : Literal). isTrue t y ≡ false) (ap negate r.2 ∙ negate-negate r.0) (unset-not-false t l u))
+            | inl r ↦ true-and-false (all-each (is_true t) g.instance.heads h r.0 r.1) (subst (λ (y : Literal). is_true t y ≡ false) (ap negate r.2 ∙ negate-negate r.0) (unset-not-false t l u))
             | inr e ↦ e
           ]
 
-      logged-act : (g : Logged) → W.obeyed g → LogOk k g → (l : Literal) → IsUnit t (mayLogged k t g) (clauseOf g) l → UnitOk t l
+      logged-act : (g : Logged) → W.obeyed g → LogOk k g → (l : Literal) → IsUnit t (may_logged k t g) (clause_of g) l → UnitOk t l
       logged-act g obeyed ok l u =
-          elim (or_cases (isGoal k l) (all (isTrue t) g.instance.heads) u.allowed) [
-            | inl w ↦ let a = isGoal-in k l w in record { unset = u.unset; must = alone-must (clauseOf g) (laws.logged g obeyed) l u.alone a; source = inl a }
+          elim (or_cases (is_goal k l) (all (is_true t) g.instance.heads) u.allowed) [
+            | inl w ↦ let a = is_goal-in k l w in record { unset = u.unset; must = alone-must (clause_of g) (laws.logged g obeyed) l u.alone a; source = inl a }
             | inr w ↦ let q = taken_of g l u.inside u.unset w in
-                let true-heads = all-each (isTrue t) g.instance.heads w in
+                let true-heads = all-each (is_true t) g.instance.heads w in
                 record {
                   unset = u.unset;
                   must = λ x a. laws.gives g obeyed l q x (λ h m. true-must o h (true-heads h m) x a);
@@ -181,27 +181,27 @@ module _ (k : Task) (W : World) where
           ]
 
     pub act-ok : (s : State) → Ok s.trail → ((g : Logged) → g ∈ s.log → LogOk k g) → ((g : Logged) → g ∈ s.log → W.obeyed g)
-        → (a : Act) → nextAct k s ≡ some a → ActOk s.trail a
+        → (a : Act) → next_act k s ≡ some a → ActOk s.trail a
     act-ok s o ok obeyed conflict e =
         elim (act-from k s conflict e) [
-          | inl r ↦ conflict-never o r.0 (laws.goals r.0 r.1) (conflict-false s.trail (isGoal k) r.0 r.2)
-          | inr r ↦ conflict-never o (clauseOf r.0) (laws.logged r.0 (obeyed r.0 r.1)) (conflict-false s.trail (mayLogged k s.trail r.0) (clauseOf r.0) r.2)
+          | inl r ↦ conflict-never o r.0 (laws.goals r.0 r.1) (conflict-false s.trail (is_goal k) r.0 r.2)
+          | inr r ↦ conflict-never o (clause_of r.0) (laws.logged r.0 (obeyed r.0 r.1)) (conflict-false s.trail (may_logged k s.trail r.0) (clause_of r.0) r.2)
         ]
     act-ok s o ok obeyed (force l) e =
         elim (act-from k s (force l) e) [
-          | inl r ↦ goal-act o r.0 r.1 l (force-unit s.trail (isGoal k) r.0 l r.2)
-          | inr r ↦ logged-act o r.0 (obeyed r.0 r.1) (ok r.0 r.1) l (force-unit s.trail (mayLogged k s.trail r.0) (clauseOf r.0) l r.2)
+          | inl r ↦ goal-act o r.0 r.1 l (force-unit s.trail (is_goal k) r.0 l r.2)
+          | inr r ↦ logged-act o r.0 (obeyed r.0 r.1) (ok r.0 r.1) l (force-unit s.trail (may_logged k s.trail r.0) (clause_of r.0) l r.2)
         ]
 
     -- ── backtracking ──
 
     -- no candidate with the decisions before it has the decision, so each has its negation
-    flip-ok : (e : Entry) (t : Trail) → Decision k t e → isUnset t e.literal ≡ true → Ok t → Never (e ∷ t)
+    flip-ok : (e : Entry) (t : Trail) → Decision k t e → is_unset t e.literal ≡ true → Ok t → Never (e ∷ t)
         → Ok (record { literal = negate e.literal; why = flipped } ∷ t)
     flip-ok e t d u o no_one =
         next (unset-negate t e.literal u) (inr (record { isnt = flipped≢decided; must = must; source = inl (rw negate-atom goal) })) o
       where
-        goal : e.literal.atom ∈ goalAtoms k.clauses
+        goal : e.literal.atom ∈ goal_atoms k.clauses
         goal = decision-goal k t e d
 
         must : Must t (negate e.literal)
@@ -233,7 +233,7 @@ module _ (k : Task) (W : World) where
   pub unit-next : {t : Trail} {l : Literal} → UnitOk t l → Ok t → Ok (record { literal = l; why = forced } ∷ t)
   unit-next u o = next u.unset (inr (record { isnt = forced≢decided; must = u.must; source = u.source })) o
 
-  pub decision-next : (s : State) (a : Atom) → nextGoal k s ≡ some a → Ok s.trail → Ok (record { literal = plain a; why = decided } ∷ s.trail)
+  pub decision-next : (s : State) (a : Atom) → next_goal k s ≡ some a → Ok s.trail → Ok (record { literal = plain a; why = decided } ∷ s.trail)
   unfolding plain
   decision-next s a e o =
       let f = goal-first k s a e in

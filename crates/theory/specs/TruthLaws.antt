@@ -6,38 +6,38 @@ use Rattle.std.proofs.Common.{◌∙◌}
 use Rattle.std.proofs.Math.IntN.{neg_ℤ, one, *ℤ-one, *ℤ-negsuc, *ℤ_comm}
 use Rattle.definitions.specs.Words.{Literal, negate, plain}
 use Rattle.definitions.specs.Instances.{Task}
-use Rattle.definitions.specs.Search.{Trail, isTrue, isFalse, isUnset, start, Outcome, more, done, cameTo, run}
-use Rattle.definitions.specs.LiteralTest.{unsetValue, trueValue, falseValue, truth, atomState, literalSign, literalTest, TellsApart}
+use Rattle.definitions.specs.Search.{Trail, is_true, is_false, is_unset, start, Outcome, more, done, came_to, run}
+use Rattle.definitions.specs.LiteralTest.{unset_value, true_value, false_value, truth, atom_state, literal_sign, literal_test, TellsApart}
 use Rattle.theory.specs.Tests.{by-test, apart, true-and-false}
 use Rattle.theory.specs.WordLaws.{as_plain, as-negated}
 use Rattle.theory.specs.SearchLaws.{Consistent, unset-not-true, unset-not-false, unset-of, unset-negate, negated-false}
 use Rattle.theory.specs.Steps.{After, run-keeps}
 use Rattle.theory.specs.Answers.{Inv, InvTells, start-inv}
-use Rattle.theory.specs.Choices.{choiceWorld, inv-step}
+use Rattle.theory.specs.Choices.{choice_world, inv-step}
 use Rattle.theory.specs.Unknown.{consistent}
 
 -- ── truth ──
 
 module _ (t : Trail) (l : Literal) where
-  pub truth-true : isTrue t l ≡ true → truth t l ≡ trueValue
+  pub truth-true : is_true t l ≡ true → truth t l ≡ true_value
   unfolding truth
   truth-true p = cc
 
-  pub truth-false : isTrue t l ≡ false → isFalse t l ≡ true → truth t l ≡ falseValue
+  pub truth-false : is_true t l ≡ false → is_false t l ≡ true → truth t l ≡ false_value
   unfolding truth
   truth-false p q = cc
 
-  pub truth-unset : isUnset t l ≡ true → truth t l ≡ unsetValue
+  pub truth-unset : is_unset t l ≡ true → truth t l ≡ unset_value
   unfolding truth
   truth-unset u = cc (unset-not-true t l u, unset-not-false t l u)
 
 -- a literal is true, false or unset
-pub by-truth : (t : Trail) → Consistent t → (l : Literal) → {C : Type 0} → (isTrue t l ≡ true → isFalse t l ≡ false → C)
-    → (isTrue t l ≡ false → isFalse t l ≡ true → C) → (isTrue t l ≡ false → isFalse t l ≡ false → C) → C
+pub by-truth : (t : Trail) → Consistent t → (l : Literal) → {C : Type 0} → (is_true t l ≡ true → is_false t l ≡ false → C)
+    → (is_true t l ≡ false → is_false t l ≡ true → C) → (is_true t l ≡ false → is_false t l ≡ false → C) → C
 by-truth t clean l a b c =
-    by-test (isTrue t l)
-    (λ p. by-test (isFalse t l) (λ q. absurd (clean l p q)) (λ q. a p q))
-    (λ p. by-test (isFalse t l) (λ q. b p q) (λ q. c p q))
+    by-test (is_true t l)
+    (λ p. by-test (is_false t l) (λ q. absurd (clean l p q)) (λ q. a p q))
+    (λ p. by-test (is_false t l) (λ q. b p q) (λ q. c p q))
 
 -- ── the test ──
 
@@ -52,7 +52,7 @@ minus-one-times z = *ℤ_comm (negsuc 0) z ∙ *ℤ-negsuc z 0 ∙ ap neg_ℤ (*
 module _ (t : Trail) (clean : Consistent t) (l : Literal) where
   -- the value of the negation
   truth-negate : neg_ℤ (truth t l) ≡ truth t (negate l)
-  unfolding isFalse
+  unfolding is_false
   truth-negate =
       by-truth t clean l
       (λ p q. ap neg_ℤ (truth-true t l p) ∙ sym (truth-false t (negate l) q (negated-false t l ∙ p)))
@@ -60,12 +60,12 @@ module _ (t : Trail) (clean : Consistent t) (l : Literal) where
       (λ p q. let u = unset-of t l p q in ap neg_ℤ (truth-unset t l u) ∙ sym (truth-unset t (negate l) (unset-negate t l u)))
 
 -- the product of its sign and its atom's state is what the literal is
-pub test-truth : (t : Trail) → Consistent t → (l : Literal) → literalTest t l ≡ truth t l
-unfolding literalTest literalSign
+pub test-truth : (t : Trail) → Consistent t → (l : Literal) → literal_test t l ≡ truth t l
+unfolding literal_test literal_sign
 test-truth t clean l =
     by-test l.positive
-    (λ p. rw p (one-times (atomState t l.atom)) ∙ ap (truth t) (sym (as_plain l p)))
-    (λ p. rw p (minus-one-times (atomState t l.atom)) ∙ truth-negate t clean (plain l.atom) ∙ ap (truth t) (sym (as-negated l p)))
+    (λ p. rw p (one-times (atom_state t l.atom)) ∙ ap (truth t) (sym (as_plain l p)))
+    (λ p. rw p (minus-one-times (atom_state t l.atom)) ∙ truth-negate t clean (plain l.atom) ∙ ap (truth t) (sym (as-negated l p)))
 
 -- it gives 1, -1 or 0 exactly when the literal is true, false or unset
 pub tells-apart : (t : Trail) → Consistent t → (l : Literal) → TellsApart t l
@@ -92,11 +92,11 @@ tells-apart t clean l =
     })
 
 -- so it does after every step of a search, and where it ends
-pub search-tells-apart : (k : Task) (budget n : ℕ) (l : Literal) → TellsApart (cameTo (run k budget n (start k))).trail l
+pub search-tells-apart : (k : Task) (budget n : ℕ) (l : Literal) → TellsApart (came_to (run k budget n (start k))).trail l
 search-tells-apart k budget n =
     on (run k budget n (start k))
-    (run-keeps k budget (Inv k (choiceWorld k)) (InvTells k (choiceWorld k)) (inv-step k budget) n (start k) (start-inv k (choiceWorld k)))
+    (run-keeps k budget (Inv k (choice_world k)) (InvTells k (choice_world k)) (inv-step k budget) n (start k) (start-inv k (choice_world k)))
   where
-    on : (o : Outcome) → After (Inv k (choiceWorld k)) (InvTells k (choiceWorld k)) o → (l : Literal) → TellsApart (cameTo o).trail l
-    on (more s) v = unfold cameTo in tells-apart s.trail (consistent k v.trailed)
-    on (done w s) v = unfold cameTo in tells-apart s.trail (consistent k v.0.trailed)
+    on : (o : Outcome) → After (Inv k (choice_world k)) (InvTells k (choice_world k)) o → (l : Literal) → TellsApart (came_to o).trail l
+    on (more s) v = unfold came_to in tells-apart s.trail (consistent k v.trailed)
+    on (done w s) v = unfold came_to in tells-apart s.trail (consistent k v.0.trailed)

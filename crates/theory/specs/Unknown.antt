@@ -7,10 +7,10 @@ use Rattle.std.proofs.Math.Bool.{false≢true}
 use Rattle.std.proofs.Math.Option.{none}
 use mathlib.Core.List.Memᴰ
 use Rattle.definitions.specs.Lists.{◌∈◌, any}
-use Rattle.definitions.specs.Words.{Atom, Literal, negate, plain, goalAtoms}
+use Rattle.definitions.specs.Words.{Atom, Literal, negate, plain, goal_atoms}
 use Rattle.definitions.specs.Instances.{Task}
-use Rattle.definitions.specs.Meaning.{Choice, Makes, Closure, chosen, derived, bothSigns, falseBody, Breaks, Fails, Earlier}
-use Rattle.definitions.specs.Search.{decided, Entry, Trail, isTrue, isFalse, isUnset, State, isGoal, nextAct, nextInstance, nextGoal, done, searchTask}
+use Rattle.definitions.specs.Meaning.{Choice, Makes, Closure, chosen, derived, both_signs, false_body, Breaks, Fails, Earlier}
+use Rattle.definitions.specs.Search.{decided, Entry, Trail, is_true, is_false, is_unset, State, is_goal, next_act, next_instance, next_goal, done, search_task}
 use Rattle.definitions.specs.Verdicts.{setting, FirstChoice}
 use Rattle.definitions.specs.declared.Verdict.TheVariants.{Unknown}
 use Rattle.theory.specs.Tests.{by-test, true-and-false, none≢some}
@@ -18,21 +18,21 @@ use Rattle.theory.specs.ListLaws.{at_split, in-along, splits}
 use Rattle.theory.specs.WordLaws.{negate-negate, negate-atom, negate-differs, as_plain, as-negated, goal-of}
 use Rattle.theory.specs.SearchLaws.{Consistent, true-at, entry-true, true-cases, unset-not-true, unset-not-false, unset-negate, set_cases, set_more, false-conflict, goal-quiet, rests-true, goals-set}
 use Rattle.theory.specs.Trail.{Gave, Decision, decision-goal, Consequence, Agrees, Ok, bare, next}
-use Rattle.theory.specs.Choices.{choiceWorld, search-tells}
+use Rattle.theory.specs.Choices.{choice_world, search-tells}
 
 -- what is true is what the setting makes, where no atom has both signs
-pub true-makes : (t : Trail) → Consistent t → (l : Literal) → isTrue t l ≡ true → Makes (setting t) l
-unfolding setting isFalse
+pub true-makes : (t : Trail) → Consistent t → (l : Literal) → is_true t l ≡ true → Makes (setting t) l
+unfolding setting is_false
 true-makes t apart l h =
     by-test l.positive
-    (λ e. subst (λ (x : Literal). isTrue t x ≡ true) (as_plain l e) h ∙ sym e)
-    (λ e. by-test (isTrue t (plain l.atom))
-    (λ p. absurd (apart (plain l.atom) p (subst (λ (x : Literal). isTrue t x ≡ true) (as-negated l e) h)))
+    (λ e. subst (λ (x : Literal). is_true t x ≡ true) (as_plain l e) h ∙ sym e)
+    (λ e. by-test (is_true t (plain l.atom))
+    (λ p. absurd (apart (plain l.atom) p (subst (λ (x : Literal). is_true t x ≡ true) (as-negated l e) h)))
     (λ p. p ∙ sym e))
 
 -- what it makes of an atom that is set is true
-pub makes-true : (t : Trail) (l : Literal) → isUnset t (plain l.atom) ≡ false → Makes (setting t) l → isTrue t l ≡ true
-unfolding setting isFalse
+pub makes-true : (t : Trail) (l : Literal) → is_unset t (plain l.atom) ≡ false → Makes (setting t) l → is_true t l ≡ true
+unfolding setting is_false
 makes-true t l u y =
     by-test l.positive
     (λ e. rw (as_plain l e) (y ∙ e))
@@ -42,17 +42,17 @@ makes-true t l u y =
     ])
 
 module _ (k : Task) where
-  pub consistent : {t : Trail} → Ok k (choiceWorld k) t → Consistent t
-  unfolding isTrue isFalse any
+  pub consistent : {t : Trail} → Ok k (choice_world k) t → Consistent t
+  unfolding is_true is_false any
   consistent bare l p q = false≢true p
   consistent (next {e = e} {t = t} u r o) l p q =
       elim (true-cases e t l p) [
         | inl h ↦ elim (true-cases e t (negate l) q) [
           | inl j ↦ negate-differs l (sym j ∙ h)
-          | inr j ↦ true-and-false j (subst (λ (x : Literal). isFalse t x ≡ false) h (unset-not-false t e.literal u))
+          | inr j ↦ true-and-false j (subst (λ (x : Literal). is_false t x ≡ false) h (unset-not-false t e.literal u))
         ]
         | inr h ↦ elim (true-cases e t (negate l) q) [
-          | inl j ↦ true-and-false h (subst (λ (x : Literal). isTrue t x ≡ false) (ap negate j ∙ negate-negate l) (unset-not-false t e.literal u))
+          | inl j ↦ true-and-false h (subst (λ (x : Literal). is_true t x ≡ false) (ap negate j ∙ negate-negate l) (unset-not-false t e.literal u))
           | inr j ↦ consistent o l h j
         ]
       ]
@@ -62,13 +62,13 @@ module _ (k : Task) where
     entry : Entry
     before : Trail
     its : entry.literal ≡ l
-    ok : Ok k (choiceWorld k) before
-    unset : isUnset before entry.literal ≡ true
-    reason : Decision k before entry ⊎ Consequence k (choiceWorld k) before entry
+    ok : Ok k (choice_world k) before
+    unset : is_unset before entry.literal ≡ true
+    reason : Decision k before entry ⊎ Consequence k (choice_world k) before entry
     within : (e : Entry) → e ∈ before → e ∈ t
 
-  born : {t : Trail} → Ok k (choiceWorld k) t → (l : Literal) → isTrue t l ≡ true → Born t l
-  unfolding isTrue any
+  born : {t : Trail} → Ok k (choice_world k) t → (l : Literal) → is_true t l ≡ true → Born t l
+  unfolding is_true any
   born bare l p = absurd (false≢true p)
   born (next {e = e} {t = t} u r o) l p =
       elim (true-cases e t l p) [
@@ -78,7 +78,7 @@ module _ (k : Task) where
       ]
 
   -- all goal atoms before a decision's are set
-  decision-of : {t : Trail} → Ok k (choiceWorld k) t → (e : Entry) → e ∈ t → e.why ≡ decided → Decision k t e
+  decision-of : {t : Trail} → Ok k (choice_world k) t → (e : Entry) → e ∈ t → e.why ≡ decided → Decision k t e
   decision-of bare e m w = absurd (Memᴰ.not-nil m)
   decision-of (next {e = d} {t = t} u r o) e m w =
       elim (Memᴰ.cases_cons m) [ inl q ↦ latest q r | inr n ↦ later e (decision-of o e n w) ]
@@ -87,13 +87,13 @@ module _ (k : Task) where
       later x c =
           record { is = c.is; positive = c.positive; before = c.before; after = c.after; split = c.split; settled = λ a n. set_more d t (plain a) (c.settled a n) }
 
-      latest : e ≡ d → Decision k t d ⊎ Consequence k (choiceWorld k) t d → Decision k (d ∷ t) e
+      latest : e ≡ d → Decision k t d ⊎ Consequence k (choice_world k) t d → Decision k (d ∷ t) e
       latest q (inl c) = subst (Decision k (d ∷ t)) (sym q) (later d c)
       latest q (inr c) = absurd (c.isnt (sym (ap (λ (x : Entry). x.why) q) ∙ w))
 
-  module _ (t : Trail) (o : Ok k (choiceWorld k) t) where
+  module _ (t : Trail) (o : Ok k (choice_world k) t) where
     -- what is true is in the closure of the setting: a goal atom's literal is chosen, a created one's was given by an instance
-    entry-closure : {u : Trail} → Ok k (choiceWorld k) u → ((e : Entry) → e ∈ u → e ∈ t) → (e : Entry) → e ∈ u → Closure k (setting t) e.literal
+    entry-closure : {u : Trail} → Ok k (choice_world k) u → ((e : Entry) → e ∈ u → e ∈ t) → (e : Entry) → e ∈ u → Closure k (setting t) e.literal
     entry-closure bare w e m = absurd (Memᴰ.not-nil m)
     entry-closure (next {e = d} {t = u} f r ok) w e m =
         elim (Memᴰ.cases_cons m) [
@@ -101,66 +101,66 @@ module _ (k : Task) where
           | inr n ↦ entry-closure ok (λ y j. w y (Memᴰ.tail j)) e n
         ]
       where
-        goal : e.literal.atom ∈ goalAtoms k.clauses → Closure k (setting t) e.literal
+        goal : e.literal.atom ∈ goal_atoms k.clauses → Closure k (setting t) e.literal
         goal a = chosen a (true-makes t (consistent o) e.literal (entry-true t e (w e m)))
 
         given : ((x : Entry) → x ∈ u → Closure k (setting t) x.literal) → (l : Literal) → Gave k u l → Closure k (setting t) l
         given rec l g =
             derived g.instance g.its (λ h n. let p = true-at u h (g.heads h n) in subst (Closure k (setting t)) p.its (rec p.entry p.inside)) g.inside
 
-        from : ((x : Entry) → x ∈ u → Closure k (setting t) x.literal) → e ≡ d → (d.literal.atom ∈ goalAtoms k.clauses) ⊎ Gave k u d.literal → Closure k (setting t) e.literal
-        from rec q (inl a) = goal (subst (λ (x : Entry). x.literal.atom ∈ goalAtoms k.clauses) (sym q) a)
+        from : ((x : Entry) → x ∈ u → Closure k (setting t) x.literal) → e ≡ d → (d.literal.atom ∈ goal_atoms k.clauses) ⊎ Gave k u d.literal → Closure k (setting t) e.literal
+        from rec q (inl a) = goal (subst (λ (x : Entry). x.literal.atom ∈ goal_atoms k.clauses) (sym q) a)
         from rec q (inr g) = subst (λ (x : Entry). Closure k (setting t) x.literal) (sym q) (given rec d.literal g)
 
-        latest : e ≡ d → Decision k u d ⊎ Consequence k (choiceWorld k) u d → ((x : Entry) → x ∈ u → Closure k (setting t) x.literal) → Closure k (setting t) e.literal
+        latest : e ≡ d → Decision k u d ⊎ Consequence k (choice_world k) u d → ((x : Entry) → x ∈ u → Closure k (setting t) x.literal) → Closure k (setting t) e.literal
         latest q (inl c) rec = from rec q (inl (decision-goal k u d c))
         latest q (inr c) rec = from rec q c.source
 
-    true-closure : (l : Literal) → isTrue t l ≡ true → Closure k (setting t) l
+    true-closure : (l : Literal) → is_true t l ≡ true → Closure k (setting t) l
     true-closure l h = let p = true-at t l h in subst (Closure k (setting t)) p.its (entry-closure o (λ e m. m) p.entry p.inside)
 
   -- ── no step is left ──
 
-  module _ (s : State) (o : Ok k (choiceWorld k) s.trail) (a : nextAct k s ≡ none) (b : nextInstance k s ≡ none) (c : nextGoal k s ≡ none) where
-    closure-true : (l : Literal) → Closure k (setting s.trail) l → isTrue s.trail l ≡ true
+  module _ (s : State) (o : Ok k (choice_world k) s.trail) (a : next_act k s ≡ none) (b : next_instance k s ≡ none) (c : next_goal k s ≡ none) where
+    closure-true : (l : Literal) → Closure k (setting s.trail) l → is_true s.trail l ≡ true
     closure-true l (chosen m y) = makes-true s.trail l (goals-set k s c l.atom m) y
     closure-true l (derived i m hs n) = (rests-true k s b i m (λ h j. closure-true h (hs h j))).1 l n
 
     -- a goal clause that the setting breaks would be a conflict of step A
-    broken-acts : (f : Breaks k (setting s.trail)) → (l : Literal) → l ∈ f.clause → isFalse s.trail l ≡ true
-    unfolding isFalse
+    broken-acts : (f : Breaks k (setting s.trail)) → (l : Literal) → l ∈ f.clause → is_false s.trail l ≡ true
+    unfolding is_false
     broken-acts f l m =
         makes-true s.trail (negate l)
-        (subst (λ (x : Atom). isUnset s.trail (plain x) ≡ false) (sym (negate-atom l)) (goals-set k s c l.atom (goal-of k.clauses f.clause l f.inside m)))
-        (f.allFalse l m)
+        (subst (λ (x : Atom). is_unset s.trail (plain x) ≡ false) (sym (negate-atom l)) (goals-set k s c l.atom (goal-of k.clauses f.clause l f.inside m)))
+        (f.all_false l m)
 
     fails-in-neither : Fails k (setting s.trail) → ⊥
-    unfolding isFalse
+    unfolding is_false
     fails-in-neither (inl f) =
-        none≢some (sym (goal-quiet k s a f.clause f.inside) ∙ false-conflict s.trail (isGoal k) f.clause (broken-acts f))
-    fails-in-neither (inr (bothSigns l p q)) = consistent o l (closure-true l p) (closure-true (negate l) q)
-    fails-in-neither (inr (falseBody i m hs e)) = (rests-true k s b i m (λ h j. closure-true h (hs h j))).0 e
+        none≢some (sym (goal-quiet k s a f.clause f.inside) ∙ false-conflict s.trail (is_goal k) f.clause (broken-acts f))
+    fails-in-neither (inr (both_signs l p q)) = consistent o l (closure-true l p) (closure-true (negate l) q)
+    fails-in-neither (inr (false_body i m hs e)) = (rests-true k s b i m (λ h j. closure-true h (hs h j))).0 e
 
     -- an earlier choice has true where the setting has false; the setting's literal there is no decision, and it was forced
     -- by decisions that the earlier choice shares
     earlier-fails : (τ : Choice) → Earlier k τ (setting s.trail) → Fails k τ
-    unfolding setting isFalse
+    unfolding setting is_false
     earlier-fails τ y =
         elim (set_cases s.trail (plain y.at) (goals-set k s c y.at goal)) [
           | inl h ↦ true-and-false h y.later
           | inr h ↦ from (born o (negate (plain y.at)) h)
         ]
       where
-        goal : y.at ∈ goalAtoms k.clauses
+        goal : y.at ∈ goal_atoms k.clauses
         goal = in-along y.split (at_split y.before y.after)
 
         from : Born s.trail (negate (plain y.at)) → Fails k τ
         from w = reason w.reason
           where
-            unset : isUnset w.before (plain y.at) ≡ true
-            unset = subst (λ (x : Literal). isUnset w.before x ≡ true) (ap negate w.its ∙ negate-negate (plain y.at)) (unset-negate w.before w.entry.literal w.unset)
+            unset : is_unset w.before (plain y.at) ≡ true
+            unset = subst (λ (x : Literal). is_unset w.before x ≡ true) (ap negate w.its ∙ negate-negate (plain y.at)) (unset-negate w.before w.entry.literal w.unset)
 
-            shares : Agrees k (choiceWorld k) τ w.before
+            shares : Agrees k (choice_world k) τ w.before
             shares e m q = side (decision-of w.ok e m q)
               where
                 side : Decision k w.before e → Closure k τ e.literal ⊎ Fails k τ
@@ -168,16 +168,16 @@ module _ (k : Task) where
                     elim (splits y.before d.before y.after d.after (sym y.split ∙ d.split)) [
                       | inl n ↦ inl (chosen (decision-goal k w.before e d) (y.alike e.literal.atom n ∙ true-makes s.trail (consistent o) e.literal (entry-true s.trail e (w.within e m))))
                       | inr r ↦ elim r [
-                        | inl p ↦ true-and-false (entry-true w.before e m) (subst (λ (x : Literal). isTrue w.before x ≡ false) (ap plain p ∙ sym d.positive) (unset-not-true w.before (plain y.at) unset))
+                        | inl p ↦ true-and-false (entry-true w.before e m) (subst (λ (x : Literal). is_true w.before x ≡ false) (ap plain p ∙ sym d.positive) (unset-not-true w.before (plain y.at) unset))
                         | inr n ↦ true-and-false unset (d.settled y.at n)
                       ]
                     ]
 
-            reason : Decision k w.before w.entry ⊎ Consequence k (choiceWorld k) w.before w.entry → Fails k τ
+            reason : Decision k w.before w.entry ⊎ Consequence k (choice_world k) w.before w.entry → Fails k τ
             reason (inl d) = absurd (unfold plain negate in false≢true (ap (λ (x : Literal). x.positive) (sym w.its ∙ d.positive)))
             reason (inr q) =
                 elim (subst (λ (x : Literal). Closure k τ x ⊎ Fails k τ) w.its (q.must τ shares)) [
-                  | inl n ↦ inr (bothSigns (plain y.at) (unfold plain in chosen goal y.earlier) n)
+                  | inl n ↦ inr (both_signs (plain y.at) (unfold plain in chosen goal y.earlier) n)
                   | inr f ↦ f
                 ]
 
@@ -186,5 +186,5 @@ module _ (k : Task) where
         record { set = goals-set k s c; neither = fails-in-neither; earlier = earlier-fails; sound = true-closure s.trail o; complete = closure-true }
 
   -- UNKNOWN: the setting is the first choice that does neither, and what is true is its closure
-  pub unknown-means : (budget : ℕ) (s : State) → searchTask k budget ≡ done Unknown s → FirstChoice k s.trail
+  pub unknown-means : (budget : ℕ) (s : State) → search_task k budget ≡ done Unknown s → FirstChoice k s.trail
   unknown-means budget s e = let (inv, (a, b, c)) = search-tells k budget Unknown s e in first-choice s inv.trailed a b c

@@ -6,7 +6,7 @@ use Rattle.std.proofs.Math.Bool.{not-not}
 use Rattle.std.proofs.lemmas.Bool.{false≢true}
 use mathlib.Core.List.Memᴰ
 use Rattle.definitions.specs.Lists.{◌∈◌, joined}
-use Rattle.definitions.specs.Words.{Atom, Literal, negate, plain, same_args, sameAtom, sameLiteral, Clause, goalAtoms}
+use Rattle.definitions.specs.Words.{Atom, Literal, negate, plain, same_args, same_atom, same_literal, Clause, goal_atoms}
 use Rattle.definitions.specs.Meaning.{Assignment, Makes}
 use Rattle.theory.specs.Tests.{by-test, apart}
 use Rattle.theory.specs.ListLaws.{joined_of, joined_in}
@@ -18,28 +18,28 @@ atom-ext p q = λ i. record { symbol = p i; args = q i }
 pub literal-ext : {l m : Literal} → l.positive ≡ m.positive → l.atom ≡ m.atom → l ≡ m
 literal-ext p q = λ i. record { positive = p i; atom = q i }
 
-pub sameArgs-eq : (xs ys : List ℕ) → same_args xs ys ≡ true → xs ≡ ys
+pub same_args-eq : (xs ys : List ℕ) → same_args xs ys ≡ true → xs ≡ ys
 unfolding same_args
-sameArgs-eq [] [] h = refl
-sameArgs-eq [] (y ∷ ys) h = apart (cc)
-sameArgs-eq (x ∷ xs) [] h = apart (cc)
-sameArgs-eq (x ∷ xs) (y ∷ ys) h = by-test (eqb x y) (λ e. cc (eqb-true x y e, sameArgs-eq xs ys (cc))) (λ e. apart (cc))
+same_args-eq [] [] h = refl
+same_args-eq [] (y ∷ ys) h = apart (cc)
+same_args-eq (x ∷ xs) [] h = apart (cc)
+same_args-eq (x ∷ xs) (y ∷ ys) h = by-test (eqb x y) (λ e. cc (eqb-true x y e, same_args-eq xs ys (cc))) (λ e. apart (cc))
 
-pub sameArgs-refl : (xs : List ℕ) → same_args xs xs ≡ true
+pub same_args-refl : (xs : List ℕ) → same_args xs xs ≡ true
 unfolding same_args
-sameArgs-refl [] = refl
-sameArgs-refl (x ∷ xs) = cc (eq-eqb x x refl, sameArgs-refl xs)
+same_args-refl [] = refl
+same_args-refl (x ∷ xs) = cc (eq-eqb x x refl, same_args-refl xs)
 
-pub sameAtom-eq : (a b : Atom) → sameAtom a b ≡ true → a ≡ b
-unfolding sameAtom
-sameAtom-eq a b h =
+pub same_atom-eq : (a b : Atom) → same_atom a b ≡ true → a ≡ b
+unfolding same_atom
+same_atom-eq a b h =
     by-test (eqb a.symbol b.symbol)
-    (λ e. atom-ext (eqb-true a.symbol b.symbol e) (sameArgs-eq a.args b.args (cc)))
+    (λ e. atom-ext (eqb-true a.symbol b.symbol e) (same_args-eq a.args b.args (cc)))
     (λ e. apart (cc))
 
-pub sameAtom-refl : (a : Atom) → sameAtom a a ≡ true
-unfolding sameAtom
-sameAtom-refl a = cc (eq-eqb a.symbol a.symbol refl, sameArgs-refl a.args)
+pub same_atom-refl : (a : Atom) → same_atom a a ≡ true
+unfolding same_atom
+same_atom-refl a = cc (eq-eqb a.symbol a.symbol refl, same_args-refl a.args)
 
 pub beq-eq : (a b : Bool) → beq a b ≡ true → a ≡ b
 beq-eq true true h = refl
@@ -51,19 +51,19 @@ pub beq-refl : (a : Bool) → beq a a ≡ true
 beq-refl true = refl
 beq-refl false = refl
 
-pub sameLiteral-eq : (l m : Literal) → sameLiteral l m ≡ true → l ≡ m
-unfolding sameLiteral
-sameLiteral-eq l m h =
+pub same_literal-eq : (l m : Literal) → same_literal l m ≡ true → l ≡ m
+unfolding same_literal
+same_literal-eq l m h =
     by-test (beq l.positive m.positive)
-    (λ e. literal-ext (beq-eq l.positive m.positive e) (sameAtom-eq l.atom m.atom (cc)))
+    (λ e. literal-ext (beq-eq l.positive m.positive e) (same_atom-eq l.atom m.atom (cc)))
     (λ e. apart (cc))
 
-pub sameLiteral-refl : (l : Literal) → sameLiteral l l ≡ true
-unfolding sameLiteral
-sameLiteral-refl l = cc (beq-refl l.positive, sameAtom-refl l.atom)
+pub same_literal-refl : (l : Literal) → same_literal l l ≡ true
+unfolding same_literal
+same_literal-refl l = cc (beq-refl l.positive, same_atom-refl l.atom)
 
-pub eq-sameLiteral : (l m : Literal) → l ≡ m → sameLiteral l m ≡ true
-eq-sameLiteral l m e = rw (← e) (sameLiteral-refl l)
+pub eq-same_literal : (l m : Literal) → l ≡ m → same_literal l m ≡ true
+eq-same_literal l m e = rw (← e) (same_literal-refl l)
 
 -- ── a literal and its negation ──
 
@@ -129,10 +129,10 @@ makes-not-both v l p q = differs l.positive (sym p ∙ q)
 
 -- ── goal atoms ──
 
-pub goal-of : (cs : List Clause) (c : Clause) (l : Literal) → c ∈ cs → l ∈ c → l.atom ∈ goalAtoms cs
-unfolding goalAtoms
+pub goal-of : (cs : List Clause) (c : Clause) (l : Literal) → c ∈ cs → l ∈ c → l.atom ∈ goal_atoms cs
+unfolding goal_atoms
 goal-of cs c l m n =
-    distinct_of sameAtom sameAtom-eq _ l.atom (Memᴰ.map (λ (x : Literal). x.atom) (joined_of (λ (c : Clause). c) cs c l m n))
+    distinct_of same_atom same_atom-eq _ l.atom (Memᴰ.map (λ (x : Literal). x.atom) (joined_of (λ (c : Clause). c) cs c l m n))
 
 -- a clause and its literal that a goal atom comes from
 pub record GoalFrom (cs : List Clause) (a : Atom) : Type 0 where
@@ -142,9 +142,9 @@ pub record GoalFrom (cs : List Clause) (a : Atom) : Type 0 where
   pub inside : literal ∈ clause
   pub atom : literal.atom ≡ a
 
-pub goal-from : (cs : List Clause) (a : Atom) → a ∈ goalAtoms cs → GoalFrom cs a
-unfolding goalAtoms
+pub goal-from : (cs : List Clause) (a : Atom) → a ∈ goal_atoms cs → GoalFrom cs a
+unfolding goal_atoms
 goal-from cs a m =
-    let (l, n, q) = Memᴰ.of_map (λ (x : Literal). x.atom) (joined (λ (c : Clause). c) cs) (distinct-in sameAtom _ a m) in
+    let (l, n, q) = Memᴰ.of_map (λ (x : Literal). x.atom) (joined (λ (c : Clause). c) cs) (distinct-in same_atom _ a m) in
     let (c, k, j) = joined_in (λ (c : Clause). c) cs l n in
     record { clause = c; its = k; literal = l; inside = j; atom = q }

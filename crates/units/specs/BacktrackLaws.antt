@@ -11,12 +11,12 @@ use Rattle.theory.specs.Tests.{by-option, apart, none≢some}
 use Rattle.theory.specs.ListLaws.{at_split, in-along}
 use Rattle.theory.specs.WordLaws.{negate-atom}
 use Rattle.theory.specs.SearchLaws.{by-why}
-use Rattle.encoding.specs.Encoding.{literalWord}
+use Rattle.encoding.specs.Encoding.{literal_word}
 use Rattle.encoding.specs.Values.{Values, assigned}
-use Rattle.units.specs.TrailWords.{mark_of, latestDecision, cleared, TrailStands}
+use Rattle.units.specs.TrailWords.{mark_of, latest_decision, cleared, TrailStands}
 use Rattle.units.specs.LiteralWords.{word_small, word_even, word_next}
 use Rattle.units.specs.Stacks.{Stacked, fits, pop, pop-all, top, length-cleared}
-use Rattle.units.specs.TrailLaws.{new-unset, entryWord, entryMark, Room, room-kept, set-stands, EntriesEntered, SetOnce, undo-stands}
+use Rattle.units.specs.TrailLaws.{new-unset, entry_word, entry_mark, Room, room-kept, set-stands, EntriesEntered, SetOnce, undo-stands}
 
 -- the latest decision, what was set since, and what was set before
 pub record Latest (t u : Trail) : Type 0 where
@@ -40,13 +40,13 @@ find-latest (e ∷ t) u h =
     one_more r = record { since = e ∷ r.since; entry = r.entry; before = r.before; split = ap (λ (x : Trail). e ∷ x) r.split; is = r.is; after = r.after }
 
 -- the marks from the top down, entry by entry
-decision-places : (marks : List ℕ) (t : Trail) → Stacked entryMark t marks
-    → (backtrack t ≡ none → latestDecision marks (length t) ≡ 0) × ((u : Trail) → backtrack t ≡ some u → latestDecision marks (length t) ≡ length u)
-unfolding latestDecision backtrack
+decision-places : (marks : List ℕ) (t : Trail) → Stacked entry_mark t marks
+    → (backtrack t ≡ none → latest_decision marks (length t) ≡ 0) × ((u : Trail) → backtrack t ≡ some u → latest_decision marks (length t) ≡ length u)
+unfolding latest_decision backtrack
 decision-places marks [] s = (λ h. refl, λ u h. none≢some h)
 decision-places marks (e ∷ t) s =
-    let mark = top entryMark e t marks s in
-    let below = decision-places marks t (pop entryMark e t marks s) in
+    let mark = top entry_mark e t marks s in
+    let below = decision-places marks t (pop entry_mark e t marks s) in
     by-why e.why
     (λ q. let hit : eqb (get_or marks (length t) 0) (mark_of decided) ≡ true = cc in (λ h. apart (cc), λ u h. let z : u ≡ record { literal = negate e.literal; why = flipped } ∷ t = cc in rw z (cc)))
     (λ q. let miss : eqb (get_or marks (length t) 0) (mark_of decided) ≡ false = cc in (λ h. cc (below.0 (cc)), λ u h. cc (below.1 u (cc))))
@@ -61,8 +61,8 @@ flip-stands : {table : List Atom} (since : Trail) (e : Entry) (before : Trail) {
     → TrailStands table (since ++ (e ∷ before)) values trail marks → EntriesEntered table (since ++ (e ∷ before)) → SetOnce (since ++ (e ∷ before))
     → e.literal ≡ plain e.literal.atom
     → TrailStands table (record { literal = negate e.literal; why = flipped } ∷ before)
-    (assigned (cleared values (take (length (since ++ (e ∷ before)) - length before) (drop (length before) trail))) (literalWord table e.literal + 1))
-    (set trail (length before) (literalWord table e.literal + 1))
+    (assigned (cleared values (take (length (since ++ (e ∷ before)) - length before) (drop (length before) trail))) (literal_word table e.literal + 1))
+    (set trail (length before) (literal_word table e.literal + 1))
     (set marks (length before) (mark_of flipped))
 flip-stands {table} since e before {values} {trail} {marks} r s g d p =
     let q = append_snoc since e before in
@@ -70,8 +70,8 @@ flip-stands {table} since e before {values} {trail} {marks} r s g d p =
     let undone = rw q at (undo-stands (since ++ (e ∷ [])) before r (rw q s) (rw q g) (rw q d)) in
     let sizes : Room table (cleared values ws) trail marks = room-kept r (length-cleared values ws) refl refl in
     let new = (different-below since (e ∷ before) d).0 in
-    let few : length before < 256 = omega (arith, fits (entryWord table) (since ++ (e ∷ before)) trail s.words, r.trail-size, length-append since (e ∷ before)) in
-    let w : literalWord table (negate e.literal) ≡ literalWord table e.literal + 1 = word_next table e.literal p in
+    let few : length before < 256 = omega (arith, fits (entry_word table) (since ++ (e ∷ before)) trail s.words, r.trail-size, length-append since (e ∷ before)) in
+    let w : literal_word table (negate e.literal) ≡ literal_word table e.literal + 1 = word_next table e.literal p in
     rw w at (set-stands sizes undone (negate e.literal) flipped (new-unset before (negate e.literal) (rw negate-atom new)) (rw negate-atom (g e (Memᴰ.append_right since (Memᴰ.head refl)))) few)
 
 -- decisions stand at true
@@ -80,13 +80,13 @@ DecidedTrue t = (e : Entry) → e ∈ t → e.why ≡ decided → e.literal ≡ 
 
 -- the scan over the marks finds no decision just where there is none to undo, and else tells how long the trail is afterwards
 module _ {table : List Atom} {t : Trail} {values : Values} {trail marks : List ℕ} (s : TrailStands table t values trail marks) where
-  pub backtrack-none-zero : backtrack t ≡ none → latestDecision marks (length t) ≡ 0
+  pub backtrack-none-zero : backtrack t ≡ none → latest_decision marks (length t) ≡ 0
   backtrack-none-zero h = (decision-places marks t s.whys).0 h
 
-  pub backtrack-some-length : {u : Trail} → backtrack t ≡ some u → latestDecision marks (length t) ≡ length u
+  pub backtrack-some-length : {u : Trail} → backtrack t ≡ some u → latest_decision marks (length t) ≡ length u
   backtrack-some-length {u} h = (decision-places marks t s.whys).1 u h
 
-  pub zero-backtrack-none : latestDecision marks (length t) ≡ 0 → backtrack t ≡ none
+  pub zero-backtrack-none : latest_decision marks (length t) ≡ 0 → backtrack t ≡ none
   zero-backtrack-none z =
       by-option (backtrack t)
       (λ h. h)
@@ -101,7 +101,7 @@ pub record Backtracked (table : List Atom) (t u : Trail) (values : Values) (trai
   pub stands : TrailStands table u (assigned (cleared values (take (length t - (n - 1)) (drop (n - 1) trail))) (w + 1)) (set trail (n - 1) (w + 1)) (set marks (n - 1) (mark_of flipped))
 
 pub backtrack-stands : {table : List Atom} {t u : Trail} {values : Values} {trail marks : List ℕ} {n w : ℕ} → Room table values trail marks → TrailStands table t values trail marks
-    → EntriesEntered table t → SetOnce t → DecidedTrue t → backtrack t ≡ some u → n ≡ latestDecision marks (length t) → w ≡ get_or trail (n - 1) 0
+    → EntriesEntered table t → SetOnce t → DecidedTrue t → backtrack t ≡ some u → n ≡ latest_decision marks (length t) → w ≡ get_or trail (n - 1) 0
     → Backtracked table t u values trail marks n w
 backtrack-stands {table} {t} {u} {values} {trail} {marks} {n} {w} r s g d p h en ew = back (find-latest t u h) (en ∙ backtrack-some-length s h)
   where
@@ -111,7 +111,7 @@ backtrack-stands {table} {t} {u} {values} {trail} {marks} {n} {w} r s g d p h en
         let m : f.entry ∈ t = in-along f.split (at_split f.since f.before) in
         let q = p f.entry m f.is in
         let s' = rw f.split at s in
-        let word : w ≡ literalWord table f.entry.literal = ew ∙ ap (λ (i : ℕ). get_or trail i 0) place ∙ top (entryWord table) f.entry f.before trail (pop-all (entryWord table) f.since (f.entry ∷ f.before) trail s'.words) in
+        let word : w ≡ literal_word table f.entry.literal = ew ∙ ap (λ (i : ℕ). get_or trail i 0) place ∙ top (entry_word table) f.entry f.before trail (pop-all (entry_word table) f.since (f.entry ∷ f.before) trail s'.words) in
         record {
           positive = omega (arith, ap length f.after);
           size = sym size;

@@ -1,7 +1,7 @@
 // The trail: what is set, in the order of setting, and what a conflict undoes.
 ghost use Rattle.std.specs.Prelude.{◌≡◌, ℕ, ◌-◌, ◌≤◌, ◌<◌, length, get_or, set, take, drop};
 ghost use Rattle.encoding.specs.Values.{assigned};
-ghost use Rattle.units.specs.TrailWords.{latestDecision, cleared, firstUnset};
+ghost use Rattle.units.specs.TrailWords.{latest_decision, cleared, first_unset};
 
 use bits::long;
 use encoding::values::Values;
@@ -34,7 +34,7 @@ pub fn set_literal(
 // The place behind the latest decision that stands at true, 0 where there is none.
 pub fn latest_decision(marks: &[u8; ATOMS], n: usize) -> usize
     requires { n ≤ 256 }
-    ensures { (result ≡ latestDecision marks.now n) × (result ≤ n) }
+    ensures { (result ≡ latest_decision marks.now n) × (result ≤ n) }
 {
     let mut i = n;
     while 0 < i {
@@ -63,7 +63,7 @@ pub fn undo(values: &mut Values, trail: &[u16; ATOMS], from: usize, n: usize)
 // The first unset goal atom, or their number: the low zeros of the unset word, masked by the number of goal atoms, are 64 where all are set.
 pub fn first_unset(values: &Values, goals: usize) -> usize
     requires { goals ≤ 64 }
-    ensures { result ≡ firstUnset values.now 0 goals }
+    ensures { result ≡ first_unset values.now 0 goals }
 {
     let unset = 0xffff_ffff_ffff_ffff - values::goals_set(values);
     let a = long::low_zeros(unset & long::low_bits(goals));

@@ -1,6 +1,6 @@
 -- `read_cnf` meets its contract: no header, clause lines that are refused, or clauses. Assumes nothing.
 use mathlib.Core.Path.{◌∙◌}
-use Rattle.cnf_reader.specs.Parts.{headerClauses}
+use Rattle.cnf_reader.specs.Parts.{header_clauses}
 use Rattle.cnf_reader.proofs.Answers.{answer-no-header, answer-refused, answer-read}
 use borrow.Author.Rules.{rules}
 use Rattle.cnf_reader.proofs.read_cnf.Statement.{statement}
@@ -27,7 +27,7 @@ cast-read-clauses : tie.Need-overflow-cast-read-clauses
 cast-read-clauses c = search rules
 
 read-clauses-requires : tie.Need-read-clauses-requires
-unfolding headerClauses
+unfolding header_clauses
 read-clauses-requires c κs = rw c.before.before.before.atoms.given.1 at c.before.before.before.before.before.header_at.ensures.1
 
 returns-2 : tie.Need-returns-2

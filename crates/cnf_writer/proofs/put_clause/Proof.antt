@@ -5,13 +5,13 @@ use mathlib.Core.List.{List, [], ◌∷◌}
 use native.Mathlib.Omega.{arith}
 use borrow.Author.Rules.{rules}
 use Rattle.listing.specs.Puts.{Putting, put-none-yet, put-room, put_last, put-first-room, put_first, parts-room, as_written}
-use Rattle.cnf_writer.specs.CnfBytes.{lineText}
+use Rattle.cnf_writer.specs.CnfBytes.{line_text}
 use Rattle.cnf_writer.proofs.Parts.{line_first}
 use Rattle.cnf_writer.proofs.put_clause.Statement.{statement}
 use Rattle.cnf_writer.proofs.put_clause.Tie as tie
 
 abbrev Left : tie.Start → List ℕ → ℕ → List ℕ → Type 0
-Left s = Putting s.args.room.now s.args.at (lineText s.args.starts.now s.args.literals.now s.args.c)
+Left s = Putting s.args.room.now s.args.at (line_text s.args.starts.now s.args.literals.now s.args.c)
 
 abbrev start1 : tie.After-put-literals → tie.Start
 start1 c = c.before.before.before.before.before.before

@@ -5,13 +5,13 @@ use native.Mathlib.Omega.{arith}
 use Rattle.definitions.specs.Lists.{joined, up_from}
 use Rattle.listing.specs.Puts.{Putting, put-none-yet, put-length, put-first-room, put_first, put_all}
 use Rattle.listing.specs.JoinedLaws.{joined-first, joined-none}
-use Rattle.cnf_writer.specs.CnfBytes.{lineText}
+use Rattle.cnf_writer.specs.CnfBytes.{line_text}
 use Rattle.cnf_writer.proofs.put_clauses.Statement.{statement}
 use Rattle.cnf_writer.proofs.put_clauses.Tie as tie
 
 abbrev invariant-loop : tie.invariant-loop
 invariant-loop room₀ at run starts literals here₀ c₀ room here c =
-    Putting room₀ at (joined (lineText starts literals) (up_from 0 run.clauses)) (joined (lineText starts literals) (up_from c (run.clauses - c))) here room
+    Putting room₀ at (joined (line_text starts literals) (up_from 0 run.clauses)) (joined (line_text starts literals) (up_from c (run.clauses - c))) here room
 
 abbrev decreases-loop : tie.decreases-loop
 decreases-loop room₀ at run starts literals here₀ c₀ room here c = run.clauses - c

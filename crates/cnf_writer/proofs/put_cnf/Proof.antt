@@ -4,7 +4,7 @@ use native.Mathlib.Omega.{arith}
 use borrow.Author.Rules.{rules}
 use Rattle.definitions.specs.Lists.{joined, up_from}
 use Rattle.listing.specs.Puts.{Putting, put-none-yet, put-room, put_last, put_first, parts-room}
-use Rattle.cnf_writer.specs.CnfBytes.{lineText, cnfBytes}
+use Rattle.cnf_writer.specs.CnfBytes.{line_text, cnf_bytes}
 use Rattle.cnf_writer.proofs.Parts.{cnf-first}
 use Rattle.cnf_writer.proofs.put_cnf.Statement.{statement}
 use Rattle.cnf_writer.proofs.put_cnf.Tie as tie
@@ -16,8 +16,8 @@ clauses-left : (c : tie.After-put-header)
     → Putting
     (start c).args.room.now
     0
-    (cnfBytes (start c).args.run (start c).args.starts.now (start c).args.literals.now)
-    (joined (lineText (start c).args.starts.now (start c).args.literals.now) (up_from 0 (start c).args.run.clauses))
+    (cnf_bytes (start c).args.run (start c).args.starts.now (start c).args.literals.now)
+    (joined (line_text (start c).args.starts.now (start c).args.literals.now) (up_from 0 (start c).args.run.clauses))
     c.put-header.result
     c.put-header.new.0
 clauses-left c = put_first (put-none-yet refl) (cnf-first _ _ _) c.put-header.ensures

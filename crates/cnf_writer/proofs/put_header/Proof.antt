@@ -4,14 +4,14 @@ use mathlib.Core.Path.{refl}
 use mathlib.Core.List.{List, [], ◌∷◌, ◌++◌}
 use borrow.Author.Rules.{rules}
 use Rattle.definitions.specs.Listing.{decimals}
-use Rattle.definitions.specs.Dimacs.{headerLine}
+use Rattle.definitions.specs.Dimacs.{header_line}
 use Rattle.listing.specs.Puts.{Putting, put-none-yet, put-room, put_last, put-first-room, put_first, parts-room, as_written}
 use Rattle.cnf_writer.proofs.Parts.{header-first}
 use Rattle.cnf_writer.proofs.put_header.Statement.{statement}
 use Rattle.cnf_writer.proofs.put_header.Tie as tie
 
 abbrev Left : tie.Start → List ℕ → ℕ → List ℕ → Type 0
-Left s = Putting s.args.room.now s.args.at (headerLine s.args.atoms s.args.clauses)
+Left s = Putting s.args.room.now s.args.at (header_line s.args.atoms s.args.clauses)
 
 abbrev atoms : tie.Start → List ℕ
 atoms s = decimals 3 s.args.atoms

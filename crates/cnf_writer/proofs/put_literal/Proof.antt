@@ -3,7 +3,7 @@ use mathlib.Core.Path.{refl}
 use mathlib.Core.List.{[], ◌∷◌}
 use borrow.Author.Rules.{rules}
 use Rattle.listing.specs.Puts.{Putting, put-none-yet, put-room, put_last, put_first, parts-room}
-use Rattle.cnf_writer.specs.CnfBytes.{wordText}
+use Rattle.cnf_writer.specs.CnfBytes.{word_text}
 use Rattle.cnf_writer.proofs.Parts.{literal-text-first}
 use Rattle.cnf_writer.proofs.put_literal.Statement.{statement}
 use Rattle.cnf_writer.proofs.put_literal.Tie as tie
@@ -12,7 +12,7 @@ abbrev start : tie.After-put-number → tie.Start
 start c = c.before.before.before
 
 blank-left : (c : tie.After-put-number)
-    → Putting (start c).args.room.now (start c).args.at (wordText (start c).args.word) (32 ∷ []) c.put-number.result c.put-number.new.0
+    → Putting (start c).args.room.now (start c).args.at (word_text (start c).args.word) (32 ∷ []) c.put-number.result c.put-number.new.0
 blank-left c = put_first (put-none-yet refl) (literal-text-first _) c.put-number.ensures
 
 add-size : tie.Need-overflow-add-size

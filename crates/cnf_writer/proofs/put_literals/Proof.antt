@@ -5,14 +5,14 @@ use native.Mathlib.Omega.{arith}
 use lib.ListN.{take, drop}
 use Rattle.definitions.specs.Lists.{joined}
 use Rattle.listing.specs.Puts.{Putting, put-none-yet, put-length, put-first-room, put_first, put_all}
-use Rattle.cnf_writer.specs.CnfBytes.{wordText}
+use Rattle.cnf_writer.specs.CnfBytes.{word_text}
 use Rattle.cnf_writer.proofs.Parts.{line-words-first, line-words-none}
 use Rattle.cnf_writer.proofs.put_literals.Statement.{statement}
 use Rattle.cnf_writer.proofs.put_literals.Tie as tie
 
 abbrev invariant-loop : tie.invariant-loop
 invariant-loop room₀ at literals from end words here₀ i₀ room here i =
-    Putting room₀ at (joined wordText (take (end - from) (drop from literals))) (joined wordText (take (end - i) (drop i words))) here room
+    Putting room₀ at (joined word_text (take (end - from) (drop from literals))) (joined word_text (take (end - i) (drop i words))) here room
 
 abbrev decreases-loop : tie.decreases-loop
 decreases-loop room₀ at literals from end words here₀ i₀ room here i = end - i

@@ -1,7 +1,7 @@
 -- `cnf_writer::put_number` meets its contract: the sign, and behind it the digits. Assumes nothing.
 use mathlib.Core.Path.{refl}
 use borrow.Author.Rules.{rules}
-use Rattle.definitions.specs.Listing.{decimals, signedDecimals}
+use Rattle.definitions.specs.Listing.{decimals, signed_decimals}
 use Rattle.listing.specs.Puts.{Putting, put-none-yet, put-room, put_last, put_first, parts-room}
 use Rattle.cnf_writer.proofs.Parts.{number-first}
 use Rattle.cnf_writer.proofs.put_number.Statement.{statement}
@@ -14,7 +14,7 @@ digits-left : (c : tie.After-put-sign)
     → Putting
     (start c).args.room.now
     (start c).args.at
-    (signedDecimals 3 (record { negative = (start c).args.negative; size = (start c).args.size }))
+    (signed_decimals 3 (record { negative = (start c).args.negative; size = (start c).args.size }))
     (decimals 3 (start c).args.size)
     c.put-sign.result
     c.put-sign.new.0

@@ -4,8 +4,8 @@ use native.Mathlib.Nat.{le_refl}
 use borrow.Author.Rules.{rules}
 use Rattle.definitions.specs.Lists.{is_empty}
 use Rattle.definitions.specs.Sheet.{plus, digits, natural, decimal}
-use Rattle.column.specs.Scan.{read_on, sizeBefore}
-use Rattle.column.specs.Column.{columnOf, size_of}
+use Rattle.column.specs.Scan.{read_on, size_before}
+use Rattle.column.specs.Column.{column_of, size_of}
 use Rattle.column.proofs.finish.Statement.{statement}
 use Rattle.column.proofs.finish.Tie as tie
 
@@ -25,23 +25,23 @@ enum-told-4 : tie.Need-enum-told-4
 enum-told-4 c = search rules
 
 returns : tie.Need-returns
-unfolding columnOf size_of read_on sizeBefore digits
+unfolding column_of size_of read_on size_before digits
 returns c = rw c.before.scan.given.1 (refl, le_refl _)
 
 returns-2 : tie.Need-returns-2
-unfolding columnOf size_of read_on sizeBefore is_empty plus
+unfolding column_of size_of read_on size_before is_empty plus
 returns-2 c = rw c.enum_told.given.1 (refl, le_refl _)
 
 returns-3 : tie.Need-returns-3
-unfolding columnOf size_of read_on sizeBefore decimal
+unfolding column_of size_of read_on size_before decimal
 returns-3 c = rw c.enum-told2.given.1 (refl, le_refl _)
 
 returns-4 : tie.Need-returns-4
-unfolding columnOf size_of read_on sizeBefore natural
+unfolding column_of size_of read_on size_before natural
 returns-4 c = rw c.enum-told3.given.1 (refl, le_refl _)
 
 returns-5 : tie.Need-returns-5
-unfolding columnOf size_of read_on sizeBefore
+unfolding column_of size_of read_on size_before
 returns-5 c = rw c.enum-told4.given.1 (refl, le_refl _)
 
 pub finish_spec : {M : Type 1} → statement M

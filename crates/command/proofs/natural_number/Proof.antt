@@ -6,13 +6,13 @@ use native.Mathlib.Omega.{arith}
 use lib.ListN.{length}
 use borrow.Author.Rules.{rules}
 use Rattle.definitions.specs.Sheet.{natural}
-use Rattle.definitions.specs.Command.{largestBudget, in_range}
-use Rattle.command.proofs.Numerals.{natural-none, natural-low, numeralFrom, natural-digits, numeral-below, numeral-above, numeral-turn, numeral-too-large, numeral-end}
+use Rattle.definitions.specs.Command.{largest_budget, in_range}
+use Rattle.command.proofs.Numerals.{natural-none, natural-low, numeral_from, natural-digits, numeral-below, numeral-above, numeral-turn, numeral-too-large, numeral-end}
 use Rattle.command.proofs.natural_number.Statement.{statement}
 use Rattle.command.proofs.natural_number.Tie as tie
 
 abbrev invariant-loop : tie.invariant-loop
-invariant-loop word value₀ i₀ value i = (i ≤ length word) × (value ≤ largestBudget) × (numeralFrom word i value ≡ in_range (natural false word))
+invariant-loop word value₀ i₀ value i = (i ≤ length word) × (value ≤ largest_budget) × (numeral_from word i value ≡ in_range (natural false word))
 
 abbrev decreases-loop : tie.decreases-loop
 decreases-loop word value₀ i₀ value i = length word - i

@@ -5,12 +5,12 @@ use native.Mathlib.Omega.{arith}
 use lib.ListN.{length}
 use borrow.Author.Rules.{rules}
 use Rattle.definitions.specs.Words.{same_args}
-use Rattle.command.proofs.SameWords.{other_length, sameFrom, same_turn, same_not, same_end}
+use Rattle.command.proofs.SameWords.{other_length, same_from, same_turn, same_not, same_end}
 use Rattle.command.proofs.same.Statement.{statement}
 use Rattle.command.proofs.same.Tie as tie
 
 abbrev invariant-loop : tie.invariant-loop
-invariant-loop a b i₀ i = (i ≤ length a) × (length a ≡ length b) × (sameFrom a b i ≡ same_args a b)
+invariant-loop a b i₀ i = (i ≤ length a) × (length a ≡ length b) × (same_from a b i ≡ same_args a b)
 
 abbrev decreases-loop : tie.decreases-loop
 decreases-loop a b i₀ i = length a - i
@@ -19,7 +19,7 @@ returns : tie.Need-returns invariant-loop decreases-loop
 returns c = other_length _ _ (λ e. omega arith)
 
 loop-holds : tie.Need-loop-init invariant-loop decreases-loop
-unfolding sameFrom
+unfolding same_from
 loop-holds c = (search rules, c.if1.false, refl)
 
 shared-slice-read-if2 : tie.Need-shared-slice-read-if2 invariant-loop decreases-loop

@@ -7,7 +7,7 @@ use native.Mathlib.Omega.{arith}
 use lib.ListN.{length, get_or, take, length-take}
 use Rattle.definitions.specs.Questions.{within}
 use Rattle.encoding.specs.Signs.{number_of}
-use Rattle.lines.specs.LineReads.{moreClauses}
+use Rattle.lines.specs.LineReads.{more_clauses}
 use Rattle.lines.proofs.ClauseLines.{clause-refused, literals-missing, literals-out, clauses-full, ClauseCounted, clause-few, clause-unread, clause-over, clause-slots, clause-many, clause-read}
 use borrow.Author.Rules.{rules}
 use borrow.Author.Tests.{not-true, not-false}
@@ -119,7 +119,7 @@ returns-6 c =
     c.if6.true
 
 returns-7 : tie.Need-returns-7
-unfolding moreClauses
+unfolding more_clauses
 returns-7 c =
     let tested = c.before.before.before.before.before.before in
     let read = tested.before.before in

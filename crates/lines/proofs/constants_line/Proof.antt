@@ -1,7 +1,7 @@
 -- `lines::constants_line` meets its contract, return by return. Assumes nothing.
 use mathlib.Core.Path.{sym, ◌∙◌}
 use native.Mathlib.Omega.{arith}
-use Rattle.lines.specs.LineReads.{moreConstants}
+use Rattle.lines.specs.LineReads.{more_constants}
 use Rattle.lines.proofs.CountLines.{constants-refused, constants-missing, constants-out, constants-over, constants-read}
 use borrow.Author.Rules.{rules}
 use borrow.Author.Tests.{not-true, not-false}
@@ -30,7 +30,7 @@ wide-requires : tie.Need-wide-requires
 wide-requires c κs = search rules
 
 returns-4 : tie.Need-returns-4
-unfolding moreConstants
+unfolding more_constants
 returns-4 c =
     let tested = c.before.before.before in
     constants-read _ _ (omega arith) (omega arith) (sym tested.before.in-range.ensures ∙ not-false _ tested.if2.false) c.before.before.if3.false _ c.wide.ensures.0 _

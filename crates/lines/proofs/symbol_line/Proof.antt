@@ -3,7 +3,7 @@ use mathlib.Core.Path.{sym, ◌∙◌}
 use native.Mathlib.Omega.{arith}
 use Rattle.theory.specs.Limits.{within-between}
 use Rattle.encoding.specs.Signs.{number_of}
-use Rattle.lines.specs.LineReads.{moreSymbols}
+use Rattle.lines.specs.LineReads.{more_symbols}
 use Rattle.lines.proofs.CountLines.{symbol-refused, arity-missing, arity-out, symbols-full, arity-over, symbol-read}
 use borrow.Author.Rules.{rules}
 use borrow.Author.Tests.{not-true, not-false}
@@ -49,7 +49,7 @@ add-t14 : tie.Need-overflow-add-t14
 add-t14 c = search rules
 
 returns-5 : tie.Need-returns-5
-unfolding moreSymbols
+unfolding more_symbols
 returns-5 c =
     let tested = c.before.before.before.before in
     symbol-read _ _ _ (omega arith) (omega arith) (sym tested.before.in-range.ensures ∙ not-false _ tested.if2.false) (omega arith) c.before.before.if4.false _ c.wide.ensures.0 _

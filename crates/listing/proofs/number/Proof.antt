@@ -1,6 +1,6 @@
 -- `listing::number` meets its contract, answer by answer. Assumes nothing.
 use borrow.Author.Rules.{rules}
-use Rattle.definitions.specs.Listing.{answerNumber}
+use Rattle.definitions.specs.Listing.{answer_number}
 use Rattle.listing.proofs.number.Statement.{statement}
 use Rattle.listing.proofs.number.Tie as tie
 
@@ -17,19 +17,19 @@ enum-told-4 : tie.Need-enum-told-4
 enum-told-4 c = search rules
 
 returns : tie.Need-returns
-unfolding answerNumber
+unfolding answer_number
 returns c = search rules
 
 returns-2 : tie.Need-returns-2
-unfolding answerNumber
+unfolding answer_number
 returns-2 c = search rules
 
 returns-3 : tie.Need-returns-3
-unfolding answerNumber
+unfolding answer_number
 returns-3 c = search rules
 
 returns-4 : tie.Need-returns-4
-unfolding answerNumber
+unfolding answer_number
 returns-4 c = search rules
 
 pub number-spec : {M : Type 1} → statement M

@@ -5,14 +5,14 @@ use mathlib.Core.List.{map}
 use native.Mathlib.Omega.{arith}
 use Rattle.definitions.specs.Lists.{up_from}
 use Rattle.listing.specs.Puts.{Putting, put-none-yet, put-length, put-first-room, put_first, put_all}
-use Rattle.listing.specs.Lines.{columnBytes, constantNumber}
+use Rattle.listing.specs.Lines.{column_bytes, constant_number}
 use Rattle.listing.proofs.Parts.{no_sign, constants-first, constants-none}
 use Rattle.listing.proofs.put_constants.Statement.{statement}
 use Rattle.listing.proofs.put_constants.Tie as tie
 
 abbrev invariant-loop : tie.invariant-loop
 invariant-loop room₀ at code arity here₀ i₀ room here i =
-    (i ≤ arity) × Putting room₀ at (columnBytes (map (constantNumber code) (up_from 0 arity))) (columnBytes (map (constantNumber code) (up_from i (arity - i)))) here room
+    (i ≤ arity) × Putting room₀ at (column_bytes (map (constant_number code) (up_from 0 arity))) (column_bytes (map (constant_number code) (up_from i (arity - i)))) here room
 
 abbrev decreases-loop : tie.decreases-loop
 decreases-loop room₀ at code arity here₀ i₀ room here i = arity - i

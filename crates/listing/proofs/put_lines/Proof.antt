@@ -4,7 +4,7 @@ use mathlib.Core.Path.{refl}
 use mathlib.Core.List.{List, ◌++◌}
 use borrow.Author.Rules.{rules}
 use Rattle.listing.specs.Puts.{Putting, put-none-yet, put-room, put_last, put-first-room, put_first, parts-room, as_written}
-use Rattle.listing.specs.Lines.{logBytes, settingsBytes, listingBytes}
+use Rattle.listing.specs.Lines.{log_bytes, settings_bytes, listing_bytes}
 use Rattle.listing.proofs.Parts.{listing-first}
 use Rattle.listing.proofs.put_lines.Statement.{statement}
 use Rattle.listing.proofs.put_lines.Tie as tie
@@ -12,15 +12,15 @@ use Rattle.listing.proofs.put_lines.Tie as tie
 abbrev Left : tie.Start → List ℕ → ℕ → List ℕ → Type 0
 Left s =
     Putting s.args.room.now s.args.at
-    (listingBytes s.args.verdict s.args.run s.args.given s.args.arities.now s.args.starts.now s.args.literals.now s.args.numbers.now s.args.table.now s.args.values.now)
+    (listing_bytes s.args.verdict s.args.run s.args.given s.args.arities.now s.args.starts.now s.args.literals.now s.args.numbers.now s.args.table.now s.args.values.now)
 
 -- the bytes of the two calls behind the first
 abbrev log : tie.Start → List ℕ
 log s =
-    logBytes s.args.given s.args.run.clauses s.args.arities.now s.args.starts.now s.args.literals.now s.args.numbers.now s.args.table.now
+    log_bytes s.args.given s.args.run.clauses s.args.arities.now s.args.starts.now s.args.literals.now s.args.numbers.now s.args.table.now
 
 abbrev settings : tie.Start → List ℕ
-settings s = settingsBytes s.args.verdict s.args.run.atoms s.args.arities.now s.args.table.now s.args.values.now
+settings s = settings_bytes s.args.verdict s.args.run.atoms s.args.arities.now s.args.table.now s.args.values.now
 
 abbrev start1 : tie.After-put-counts → tie.Start
 start1 c = c.before.before.before.before.before

@@ -5,7 +5,7 @@ use native.Mathlib.Omega.{arith}
 use borrow.Author.Rules.{rules}
 use Rattle.definitions.specs.Lists.{up_from}
 use Rattle.listing.specs.Puts.{Putting, put-none-yet, put-room, put_last, put_first, parts-room}
-use Rattle.listing.specs.Lines.{columnBytes, constantNumber, codeNumbers}
+use Rattle.listing.specs.Lines.{column_bytes, constant_number, code_numbers}
 use Rattle.listing.proofs.Parts.{literal-first}
 use Rattle.listing.proofs.put_literal.Statement.{statement}
 use Rattle.listing.proofs.put_literal.Tie as tie
@@ -17,8 +17,8 @@ constants-left : (c : tie.After-put-number)
     → Putting
     (start c.before.before).args.room.now
     (start c.before.before).args.at
-    (columnBytes (codeNumbers (start c.before.before).args.arities.now (start c.before.before).args.negative (start c.before.before).args.code))
-    (columnBytes (map (constantNumber (start c.before.before).args.code) (up_from 0 c.before.before.wide8.result)))
+    (column_bytes (code_numbers (start c.before.before).args.arities.now (start c.before.before).args.negative (start c.before.before).args.code))
+    (column_bytes (map (constant_number (start c.before.before).args.code) (up_from 0 c.before.before.wide8.result)))
     c.put-number.result
     c.put-number.new.0
 constants-left c = put_first (put-none-yet refl) (literal-first _ _ _ c.before.before.wide8.ensures.0) c.put-number.ensures

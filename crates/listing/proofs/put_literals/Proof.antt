@@ -5,7 +5,7 @@ use native.Mathlib.Omega.{arith}
 use lib.ListN.{get_or, take, drop}
 use Rattle.definitions.specs.Lists.{joined}
 use Rattle.listing.specs.Puts.{Putting, put-none-yet, put-length, put-first-room, put_first, put_all}
-use Rattle.listing.specs.Lines.{columnBytes, wordNumbers}
+use Rattle.listing.specs.Lines.{column_bytes, word_numbers}
 use Rattle.listing.proofs.Parts.{words-first, words-none}
 use Rattle.listing.proofs.put_literals.Statement.{statement}
 use Rattle.listing.proofs.put_literals.Tie as tie
@@ -16,8 +16,8 @@ invariant-loop room₀ at arities table literals from end words here₀ i₀ roo
     × Putting
     room₀
     at
-    (columnBytes (joined (wordNumbers arities table) (take (end - from) (drop from literals))))
-    (columnBytes (joined (wordNumbers arities table) (take (end - i) (drop i words))))
+    (column_bytes (joined (word_numbers arities table) (take (end - from) (drop from literals))))
+    (column_bytes (joined (word_numbers arities table) (take (end - i) (drop i words))))
     here
     room
 

@@ -4,7 +4,7 @@ use mathlib.Core.Path.{◌≡◌, refl}
 use native.Mathlib.Omega.{arith}
 use Rattle.definitions.specs.Lists.{joined, up_from}
 use Rattle.listing.specs.Puts.{Putting, put-none-yet, put-length, put-first-room, put_first, put_all}
-use Rattle.listing.specs.Lines.{loggedBytes, logBytes}
+use Rattle.listing.specs.Lines.{logged_bytes, log_bytes}
 use Rattle.listing.specs.JoinedLaws.{joined-first, joined-none}
 use Rattle.listing.proofs.Parts.{listable-first}
 use Rattle.listing.proofs.put_log.Statement.{statement}
@@ -16,8 +16,8 @@ invariant-loop room₀ at given clauses arities starts literals numbers table lo
     × Putting
     room₀
     at
-    (logBytes given clauses arities starts literals numbers table)
-    (joined (loggedBytes given arities starts literals numbers table) (up_from n (logged - n)))
+    (log_bytes given clauses arities starts literals numbers table)
+    (joined (logged_bytes given arities starts literals numbers table) (up_from n (logged - n)))
     here
     room
 
@@ -28,7 +28,7 @@ sub-logged : tie.Need-overflow-sub-logged invariant-loop decreases-loop
 sub-logged c = c.before.requires.0.some
 
 loop-holds : tie.Need-loop-init invariant-loop decreases-loop
-unfolding logBytes
+unfolding log_bytes
 loop-holds c =
     let a = c.before.args in
     let all : a.clauses - a.given - 0 ≡ a.clauses - a.given = omega arith in

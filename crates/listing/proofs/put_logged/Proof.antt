@@ -5,12 +5,12 @@ use mathlib.Core.List.{List, [], ◌∷◌}
 use native.Mathlib.Omega.{arith}
 use lib.ListN.{length, get_or}
 use borrow.Author.Rules.{rules}
-use Rattle.encoding.specs.Lengths.{literalArray}
+use Rattle.encoding.specs.Lengths.{literal_array}
 use Rattle.definitions.specs.Lists.{joined}
 use Rattle.definitions.specs.Sheet.{Number, plus}
-use Rattle.units.specs.Units.{clauseAt}
+use Rattle.units.specs.Units.{clause_at}
 use Rattle.listing.specs.Puts.{Putting, put-none-yet, put-room, put_last, put-first-room, put_first, parts-room}
-use Rattle.listing.specs.Lines.{rowBytes, wordNumbers, loggedBytes}
+use Rattle.listing.specs.Lines.{row_bytes, word_numbers, logged_bytes}
 use Rattle.listing.proofs.Parts.{no_sign, row_first, clause-count, clause-end, logged-first}
 use Rattle.listing.proofs.put_logged.Statement.{statement}
 use Rattle.listing.proofs.put_logged.Tie as tie
@@ -28,20 +28,20 @@ end s = get_or s.args.starts.now (clause s + 1) 0
 rises : (s : tie.Start) → from s ≤ end s
 rises s = s.requires.1.rising (clause s) (omega arith)
 
-inside : (s : tie.Start) → end s ≤ literalArray
+inside : (s : tie.Start) → end s ≤ literal_array
 inside s = s.requires.1.inside (clause s + 1) (omega arith)
 
 -- its words, and the numbers of its literals
 abbrev words : tie.Start → List ℕ
-words s = clauseAt s.args.starts.now s.args.literals.now (clause s)
+words s = clause_at s.args.starts.now s.args.literals.now (clause s)
 
 abbrev numbers : tie.Start → List Number
-numbers s = joined (wordNumbers s.args.arities.now s.args.table.now) (words s)
+numbers s = joined (word_numbers s.args.arities.now s.args.table.now) (words s)
 
 abbrev Left : tie.Start → List ℕ → ℕ → List ℕ → Type 0
 Left s =
     Putting s.args.room.now s.args.at
-    (loggedBytes s.args.given s.args.arities.now s.args.starts.now s.args.literals.now s.args.numbers.now s.args.table.now s.args.n)
+    (logged_bytes s.args.given s.args.arities.now s.args.starts.now s.args.literals.now s.args.numbers.now s.args.table.now s.args.n)
 
 abbrev start : tie.After-widened → tie.Start
 start c = c.before.before.before.before.before.before
@@ -62,15 +62,15 @@ abbrev start4 : tie.After-put-literals → tie.Start
 start4 c = start3 c.before.before.before.before
 
 one : (c : tie.After-put-number)
-    → Left (start1 c) (rowBytes (plus (get_or (start1 c).args.numbers.now (start1 c).args.n 0) ∷ plus (length (words (start1 c))) ∷ numbers (start1 c))) c.put-number.result c.put-number.new.0
+    → Left (start1 c) (row_bytes (plus (get_or (start1 c).args.numbers.now (start1 c).args.n 0) ∷ plus (length (words (start1 c))) ∷ numbers (start1 c))) c.put-number.result c.put-number.new.0
 one c = put_first (put-none-yet refl) (logged-first _ _ _ _ _ _ _) c.put-number.ensures
 
-two : (c : tie.After-put-number2) → Left (start2 c) (rowBytes (plus (length (words (start2 c))) ∷ numbers (start2 c))) c.put-number2.result c.put-number2.new.0
+two : (c : tie.After-put-number2) → Left (start2 c) (row_bytes (plus (length (words (start2 c))) ∷ numbers (start2 c))) c.put-number2.result c.put-number2.new.0
 two c =
     let before = c.before.before.before.before in
     put_first (one before) (row_first before.before.before.widened.ensures.0 _) c.put-number2.ensures
 
-three : (c : tie.After-put-number3) → Left (start3 c) (rowBytes (numbers (start3 c))) c.put-number3.result c.put-number3.new.0
+three : (c : tie.After-put-number3) → Left (start3 c) (row_bytes (numbers (start3 c))) c.put-number3.result c.put-number3.new.0
 three c =
     let before = c.before.before.before.before in
     put_first (two before) (row_first (count before.before.before.before.before.before.before) _) c.put-number3.ensures

@@ -6,25 +6,25 @@ use native.Mathlib.Omega.{arith}
 use lib.ListN.{length}
 use borrow.Author.Rules.{rules}
 use Rattle.definitions.specs.Sheet.{plus}
-use Rattle.definitions.specs.Listing.{refusalLine}
+use Rattle.definitions.specs.Listing.{refusal_line}
 use Rattle.listing.specs.Puts.{Parts, Putting, put-none-yet, put-room, put_last, put-first-room, put_first, parts-room}
-use Rattle.listing.specs.Lines.{columnBytes, rowBytes}
+use Rattle.listing.specs.Lines.{column_bytes, row_bytes}
 use Rattle.listing.proofs.Parts.{unsigned, no_sign, row_first, row-parts}
 use Rattle.listing.proofs.put_refusal.Statement.{statement}
 use Rattle.listing.proofs.put_refusal.Tie as tie
 
 -- what is left of the line
 abbrev Left : tie.Start → List ℕ → ℕ → List ℕ → Type 0
-Left s = Putting s.args.room.now 0 (refusalLine s.args.number s.args.line)
+Left s = Putting s.args.room.now 0 (refusal_line s.args.number s.args.line)
 
-fits : (s : tie.Start) → 0 + length (refusalLine s.args.number s.args.line) ≤ length s.args.room.now
-fits s = let h : length (refusalLine s.args.number s.args.line) ≤ length s.args.room.now = s.requires in omega arith
+fits : (s : tie.Start) → 0 + length (refusal_line s.args.number s.args.line) ≤ length s.args.room.now
+fits s = let h : length (refusal_line s.args.number s.args.line) ≤ length s.args.room.now = s.requires in omega arith
 
-refusal-first : (q n : ℕ) → Parts (refusalLine q n) (columnBytes (unsigned 9 ∷ [])) (rowBytes (plus q ∷ plus n ∷ []))
-unfolding refusalLine rowBytes
+refusal-first : (q n : ℕ) → Parts (refusal_line q n) (column_bytes (unsigned 9 ∷ [])) (row_bytes (plus q ∷ plus n ∷ []))
+unfolding refusal_line row_bytes
 refusal-first q n = row_first {n = 9} refl (plus q ∷ plus n ∷ [])
 
-last-column : (n : ℕ) → Parts (rowBytes (plus n ∷ [])) (columnBytes (unsigned n ∷ [])) (10 ∷ [])
+last-column : (n : ℕ) → Parts (row_bytes (plus n ∷ [])) (column_bytes (unsigned n ∷ [])) (10 ∷ [])
 unfolding plus
 last-column n = row-parts (unsigned n ∷ [])
 
@@ -37,10 +37,10 @@ start2 c = start1 c.before.before.before.before
 abbrev start3 : tie.After-put-number3 → tie.Start
 start3 c = start2 c.before.before.before.before
 
-one : (c : tie.After-put-number) → Left (start1 c) (rowBytes (plus (start1 c).args.number ∷ plus (start1 c).args.line ∷ [])) c.put-number.result c.put-number.new.0
+one : (c : tie.After-put-number) → Left (start1 c) (row_bytes (plus (start1 c).args.number ∷ plus (start1 c).args.line ∷ [])) c.put-number.result c.put-number.new.0
 one c = put_first (put-none-yet refl) (refusal-first _ _) c.put-number.ensures
 
-two : (c : tie.After-put-number2) → Left (start2 c) (rowBytes (plus (start2 c).args.line ∷ [])) c.put-number2.result c.put-number2.new.0
+two : (c : tie.After-put-number2) → Left (start2 c) (row_bytes (plus (start2 c).args.line ∷ [])) c.put-number2.result c.put-number2.new.0
 two c =
     let before = c.before.before.before.before in
     put_first (one before) (row_first before.before.before.widened.ensures.0 _) c.put-number2.ensures

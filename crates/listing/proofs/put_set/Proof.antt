@@ -4,7 +4,7 @@ use mathlib.Core.List.{[], ◌∷◌}
 use borrow.Author.Rules.{rules}
 use Rattle.definitions.specs.Sheet.{plus}
 use Rattle.listing.specs.Puts.{Putting, put-none-yet, put-room, put_last, put-first-room, put_first, parts-room}
-use Rattle.listing.specs.Lines.{rowBytes, codeNumbers}
+use Rattle.listing.specs.Lines.{row_bytes, code_numbers}
 use Rattle.listing.proofs.Parts.{no_sign, row_first, row-parts}
 use Rattle.listing.proofs.put_set.Statement.{statement}
 use Rattle.listing.proofs.put_set.Tie as tie
@@ -16,8 +16,8 @@ one : (c : tie.After-put-number)
     → Putting
     (start c).args.room.now
     (start c).args.at
-    (rowBytes (plus 7 ∷ codeNumbers (start c).args.arities.now (start c).args.negative (start c).args.code))
-    (rowBytes (codeNumbers (start c).args.arities.now (start c).args.negative (start c).args.code))
+    (row_bytes (plus 7 ∷ code_numbers (start c).args.arities.now (start c).args.negative (start c).args.code))
+    (row_bytes (code_numbers (start c).args.arities.now (start c).args.negative (start c).args.code))
     c.put-number.result
     c.put-number.new.0
 one c = put_first (put-none-yet refl) (row_first {n = 7} refl _) c.put-number.ensures
@@ -29,7 +29,7 @@ two : (c : tie.After-put-literal)
     → Putting
     (start2 c).args.room.now
     (start2 c).args.at
-    (rowBytes (plus 7 ∷ codeNumbers (start2 c).args.arities.now (start2 c).args.negative (start2 c).args.code))
+    (row_bytes (plus 7 ∷ code_numbers (start2 c).args.arities.now (start2 c).args.negative (start2 c).args.code))
     (10 ∷ [])
     c.put-literal.result
     c.put-literal.new.0

@@ -4,7 +4,7 @@ use mathlib.Core.Path.{◌≡◌, refl}
 use native.Mathlib.Omega.{arith}
 use Rattle.definitions.specs.Lists.{joined, up_from}
 use Rattle.listing.specs.Puts.{Putting, put-none-yet, put-length, put-first-room, put_first, put_all}
-use Rattle.listing.specs.Lines.{settingBytes}
+use Rattle.listing.specs.Lines.{setting_bytes}
 use Rattle.listing.specs.JoinedLaws.{joined-first, joined-none}
 use Rattle.listing.proofs.put_settings.Statement.{statement}
 use Rattle.listing.proofs.put_settings.Tie as tie
@@ -12,7 +12,7 @@ use Rattle.listing.proofs.put_settings.Tie as tie
 abbrev invariant-loop : tie.invariant-loop
 invariant-loop room₀ at atoms arities table values here₀ i₀ room here i =
     (i ≤ atoms)
-    × Putting room₀ at (joined (settingBytes arities table values) (up_from 0 atoms)) (joined (settingBytes arities table values) (up_from i (atoms - i))) here room
+    × Putting room₀ at (joined (setting_bytes arities table values) (up_from 0 atoms)) (joined (setting_bytes arities table values) (up_from i (atoms - i))) here room
 
 abbrev decreases-loop : tie.decreases-loop
 decreases-loop room₀ at atoms arities table values here₀ i₀ room here i = atoms - i

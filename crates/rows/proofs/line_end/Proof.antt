@@ -3,14 +3,14 @@ use Prim.Native.Nat.{◌+◌, ◌-◌, ◌≤◌}
 use mathlib.Core.Path.{◌≡◌}
 use native.Mathlib.Omega.{arith}
 use lib.ListN.{length, drop}
-use Rattle.rows.specs.Rows.{lineLength}
+use Rattle.rows.specs.Rows.{line_length}
 use Rattle.rows.proofs.RowLoops.{line-here, line_on, line-over}
 use borrow.Author.Rules.{rules}
 use Rattle.rows.proofs.line_end.Statement.{statement}
 use Rattle.rows.proofs.line_end.Tie as tie
 
 abbrev invariant-loop : tie.invariant-loop
-invariant-loop sheet from at₀ at = (at ≤ length sheet) × (at + lineLength (drop at sheet) ≡ from + lineLength (drop from sheet))
+invariant-loop sheet from at₀ at = (at ≤ length sheet) × (at + line_length (drop at sheet) ≡ from + line_length (drop from sheet))
 
 abbrev decreases-loop : tie.decreases-loop
 decreases-loop sheet from at₀ at = length sheet - at

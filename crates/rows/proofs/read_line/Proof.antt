@@ -4,15 +4,15 @@ use mathlib.Core.Path.{◌≡◌, sym, ◌∙◌}
 use mathlib.Core.Bool.{true}
 use native.Mathlib.Omega.{arith}
 use borrow.Author.Tests.{not-true, not-false}
-use Rattle.definitions.specs.Questions.{goodLength}
-use Rattle.rows.specs.Rows.{rowCount, startCount}
+use Rattle.definitions.specs.Questions.{good_length}
+use Rattle.rows.specs.Rows.{row_count, start_count}
 use Rattle.rows.proofs.RowQuestions.{good-columns, no_end, bad-length, bad-column, bad_kind, line-start}
 use borrow.Author.Rules.{rules}
 use Rattle.rows.proofs.read_line.Statement.{statement}
 use Rattle.rows.proofs.read_line.Tie as tie
 
 returns : tie.Need-returns
-unfolding startCount
+unfolding start_count
 returns c = (no_end _ _ _ _ _ c.if1.true, omega arith)
 
 sub-length : tie.Need-overflow-sub-length
@@ -22,13 +22,13 @@ is-good-length-requires : tie.Need-is-good-length-requires
 is-good-length-requires c κs = search rules
 
 returns-2 : tie.Need-returns-2
-unfolding startCount
+unfolding start_count
 returns-2 c =
     let start = c.before.before.before.before in
     (bad-length _ _ _ _ _ start.requires.0 start.requires.1 c.before.before.if1.false (sym c.before.is-good-length.ensures ∙ not-true _ c.if2.true), omega arith)
 
 -- question 5 is answered yes
-is-good : (c : tie.Else2) → goodLength (c.before.before.before.before.args.end - c.before.before.before.before.args.from) ≡ true
+is-good : (c : tie.Else2) → good_length (c.before.before.before.before.args.end - c.before.before.before.before.args.from) ≡ true
 is-good c = sym c.before.is-good-length.ensures ∙ not-false _ c.if2.false
 
 read-row-requires : tie.Need-read-row-requires
@@ -47,7 +47,7 @@ row-kind-requires : tie.Need-row-kind-requires
 row-kind-requires c κs = search rules
 
 returns-3 : tie.Need-returns-3
-unfolding startCount
+unfolding start_count
 returns-3 c =
     let filled = c.before.before.before.before in
     let row = filled.before.before in
@@ -58,7 +58,7 @@ returns-3 c =
     )
 
 returns-4 : tie.Need-returns-4
-unfolding startCount
+unfolding start_count
 returns-4 c =
     let row = c.before.before in
     let good = row.before.before in
@@ -66,7 +66,7 @@ returns-4 c =
     (bad-column _ _ _ _ _ start.requires.0 start.requires.1 good.before.before.if1.false (is-good good) _ row.read-row.ensures.0 c.enum_told.given.1, omega arith)
 
 returns-5 : tie.Need-returns-5
-unfolding startCount rowCount
+unfolding start_count row_count
 returns-5 c =
     let filled = c.before.before.before.before in
     let row = filled.before.before in

@@ -3,8 +3,8 @@ use Prim.Native.Nat.{◌-◌}
 use mathlib.Core.Path.{sym}
 use mathlib.Core.Logic.{⊎_elim}
 use native.Mathlib.Omega.{arith}
-use Rattle.column.specs.Column.{columnOf, size_of}
-use Rattle.rows.specs.Rows.{rowAsked, rowCount}
+use Rattle.column.specs.Column.{column_of, size_of}
+use Rattle.rows.specs.Rows.{row_asked, row_count}
 use Rattle.rows.proofs.RowLoops.{RowUpTo, row-start, row_number, row-blank, row-fault, row-end}
 use borrow.Author.Rules.{rules}
 use Rattle.rows.proofs.read_row.Statement.{statement}
@@ -51,7 +51,7 @@ enum-told-2 : tie.Need-enum-told-2 invariant-loop decreases-loop
 enum-told-2 c = search rules
 
 returns : tie.Need-returns invariant-loop decreases-loop
-unfolding columnOf rowAsked rowCount
+unfolding column_of row_asked row_count
 returns c =
     let turn = c.before.before.before in
     let e = rw c.enum-told2.given.1 at c.before.before.read-column.ensures.0 in
@@ -64,7 +64,7 @@ loop-less : tie.Need-loop-smaller invariant-loop decreases-loop
 loop-less c = search rules
 
 loop-again : tie.Need-loop-preserved invariant-loop decreases-loop
-unfolding columnOf
+unfolding column_of
 loop-again c =
     let turn = c.before.before in
     let start = turn.before.before.before.before.before in
@@ -79,7 +79,7 @@ loop-again c =
     c.match.branch
 
 returns-2 : tie.Need-returns-2 invariant-loop decreases-loop
-unfolding rowAsked rowCount
+unfolding row_asked row_count
 returns-2 c =
     let loop = c.before.loop in
     (row-end loop.invariant c.loop-test.false, omega (arith, loop.invariant.inside, loop.invariant.counted, c.before.before.before.before.before.requires.1))

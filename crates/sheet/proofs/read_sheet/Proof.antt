@@ -3,7 +3,7 @@ use Prim.Native.Nat.{◌-◌}
 use native.Mathlib.Omega.{arith}
 use lib.ListN.{length}
 use Rattle.encoding.specs.Encoding.{Arrays, arrays}
-use Rattle.rows.specs.Rows.{startCount}
+use Rattle.rows.specs.Rows.{start_count}
 use Rattle.sheet.proofs.Sheets.{read-long, read-empty, line-inside, ReadUpTo, reached-start, reached-end, Starts, reached-ready, start-stop, line-stop, reached-next}
 use borrow.Author.Rules.{rules}
 use Rattle.sheet.proofs.read_sheet.Statement.{statement}
@@ -61,7 +61,7 @@ enum-known-kind : tie.Need-enum-known-kind invariant-loop decreases-loop
 enum-known-kind c = search rules
 
 line-of-kind-requires : tie.Need-line-of-kind-requires invariant-loop decreases-loop
-unfolding startCount
+unfolding start_count
 line-of-kind-requires c κs =
     let found = c.before.before.before.before.before.before.before.before.before in
     let line = found.before.before in

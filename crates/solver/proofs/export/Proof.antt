@@ -15,8 +15,8 @@ returns c =
 answered-requires : tie.Need-answered-requires
 answered-requires c κs =
     let asked = c.before.before in
-    let (large, largeExport) = lent-rooms _ _ _ asked.before.first-short-export.ensures asked.if1.false in
-    (large, λ e. largeExport)
+    let (large, large_export) = lent-rooms _ _ _ asked.before.first-short-export.ensures asked.if1.false in
+    (large, λ e. large_export)
 
 same_length : tie.Need-same-length
 same_length c = search rules
@@ -29,8 +29,8 @@ returns-2 c =
     let done = c.before.before.before.before in
     let asked = done.before.before.before in
     let a = asked.before.before.before.before.before.args in
-    let (large, largeExport) = lent-rooms _ _ _ asked.before.first-short-export.ensures asked.if1.false in
-    enough-exported a.sheet.now a.budget a.room.now a.cnf.now large largeExport done.answered.result _ _ done.answered.ensures
+    let (large, large_export) = lent-rooms _ _ _ asked.before.first-short-export.ensures asked.if1.false in
+    enough-exported a.sheet.now a.budget a.room.now a.cnf.now large large_export done.answered.result _ _ done.answered.ensures
 
 pub export-spec : {M : Type 1} → statement M
 export-spec =

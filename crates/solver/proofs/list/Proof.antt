@@ -1,6 +1,6 @@
 -- `solver::list` meets its contract: the length and the room of both calls in one. Assumes nothing.
 use borrow.Author.Rules.{rules}
-use Rattle.definitions.specs.Call.{listedPart, roomAfter}
+use Rattle.definitions.specs.Call.{listed_part, room_after}
 use Rattle.solver.proofs.list.Statement.{statement}
 use Rattle.solver.proofs.list.Tie as tie
 
@@ -11,7 +11,7 @@ same_length : tie.Need-same-length
 same_length c = search rules
 
 returns : tie.Need-returns
-unfolding listedPart roomAfter
+unfolding listed_part room_after
 returns c =
     let e = c.before.before.solve-both in
     (e.ensures.size, e.ensures.stored)

@@ -2,7 +2,7 @@
 use mathlib.Core.Path.{refl}
 use native.Mathlib.Omega.{arith}
 use borrow.Author.Rules.{rules}
-use Rattle.definitions.specs.Call.{listingOf, written}
+use Rattle.definitions.specs.Call.{listing_of, written}
 use Rattle.theory.specs.CallLaws.{small-part}
 use Rattle.solver.specs.PrintLaws.{refusal-length, print-answer, print-refusal, unlisted, printed-result, printed-alike, result-ends}
 use Rattle.solver.proofs.print.Statement.{statement}
@@ -39,7 +39,7 @@ returns-2 c =
     let e = solved.solve-both in
     let a = solved.before.before.before.before.before.args in
     printed-alike a.room.now (printed-result a.sheet.now a.budget a.room.now (omega arith))
-    (print-refusal listingOf unlisted _ (result-ends a.sheet.now a.budget a.room.now) _ (omega arith) e.ensures.answer e.ensures.size e.ensures.stored _ answered.answer.given.1 _ _ put.put-refusal.ensures)
+    (print-refusal listing_of unlisted _ (result-ends a.sheet.now a.budget a.room.now) _ (omega arith) e.ensures.answer e.ensures.size e.ensures.stored _ answered.answer.given.1 _ _ put.put-refusal.ensures)
 
 same-length-2 : tie.Need-same-length-2
 same-length-2 c = search rules
@@ -50,7 +50,7 @@ returns-3 c =
     let e = solved.solve-both in
     let a = solved.before.before.before.before.before.args in
     printed-alike a.room.now (printed-result a.sheet.now a.budget a.room.now (omega arith))
-    (print-answer listingOf unlisted _ (result-ends a.sheet.now a.budget a.room.now) _ (omega arith) e.ensures.answer e.ensures.size e.ensures.stored _ c.enum_told.given.1)
+    (print-answer listing_of unlisted _ (result-ends a.sheet.now a.budget a.room.now) _ (omega arith) e.ensures.answer e.ensures.size e.ensures.stored _ c.enum_told.given.1)
 
 pub print-spec : {M : Type 1} → statement M
 print-spec =

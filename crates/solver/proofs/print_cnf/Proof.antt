@@ -2,7 +2,7 @@
 use native.Mathlib.Omega.{arith}
 use borrow.Author.Rules.{rules}
 use Rattle.definitions.specs.Questions.{read}
-use Rattle.definitions.specs.Export.{export_of, exportCall, exportText, exportAfter}
+use Rattle.definitions.specs.Export.{export_of, export_call, export_text, export_after}
 use Rattle.theory.specs.ExportLaws.{refused-text}
 use Rattle.solver.specs.PrintLaws.{refusal-length, print-answer, print-refusal, printed-export, printed-alike, export-ends}
 use Rattle.solver.proofs.print_cnf.Statement.{statement}
@@ -26,7 +26,7 @@ put-refusal-requires c κs =
     omega (arith, refusal-length refusal.number refusal.line)
 
 returns : tie.Need-returns
-unfolding exportCall exportText exportAfter
+unfolding export_call export_text export_after
 returns c =
     let e = c.before.before.before in
     let a = e.before.before.before.before.args in
@@ -35,7 +35,7 @@ returns c =
     (print-answer made (refused-text (read a.sheet.now)) _ (export-ends a.sheet.now a.budget _ a.cnf.now) _ (omega arith) e.export.ensures.0 e.export.ensures.1 e.export.ensures.3 _ c.enum_told.given.1)
 
 returns-2 : tie.Need-returns-2
-unfolding exportCall exportText exportAfter
+unfolding export_call export_text export_after
 returns-2 c =
     let answered = c.before.before.before in
     let e = answered.before.before.before in

@@ -1,6 +1,6 @@
 -- `solver::solve` meets its contract: the answer of both calls in one. Assumes nothing.
 use borrow.Author.Rules.{rules}
-use Rattle.definitions.specs.Call.{call, roomAfter}
+use Rattle.definitions.specs.Call.{call, room_after}
 use Rattle.solver.proofs.solve.Statement.{statement}
 use Rattle.solver.proofs.solve.Tie as tie
 
@@ -11,7 +11,7 @@ same_length : tie.Need-same-length
 same_length c = search rules
 
 returns : tie.Need-returns
-unfolding call roomAfter
+unfolding call room_after
 returns c =
     let e = c.before.before.solve-both in
     (e.ensures.answer, e.ensures.stored)

@@ -3,7 +3,7 @@ use mathlib.Core.Path.{refl, sym}
 use lib.ListN.{length}
 use lib.Seq.{length-take-le}
 use borrow.Author.Rules.{rules}
-use Rattle.definitions.specs.Call.{listedPart, roomAfter}
+use Rattle.definitions.specs.Call.{listed_part, room_after}
 use Rattle.solver.specs.LentLaws.{written-fits, written-front}
 use Rattle.solver.proofs.solve_listing.Statement.{statement}
 use Rattle.solver.proofs.solve_listing.Tie as tie
@@ -12,13 +12,13 @@ list-requires : tie.Need-list-requires
 list-requires c κs = search rules
 
 slice-aggregate-result : tie.Need-slice-aggregate-result
-unfolding listedPart roomAfter
+unfolding listed_part room_after
 slice-aggregate-result c =
     let e = c.before.before.before.list in
     sym (length-take-le e.result e.new.1.1.0 (written-fits _ _ e.ensures.0 e.ensures.1))
 
 returns : tie.Need-returns
-unfolding listedPart roomAfter
+unfolding listed_part room_after
 returns c =
     let e = c.before.before.before.list in
     (written-front _ _ e.ensures.0 e.ensures.1, refl)

@@ -1,6 +1,6 @@
 -- `clause_lines::close_at` meets its contract: the closing 0 and LF stand there, or not. Assumes nothing.
 use native.Mathlib.Omega.{arith}
-use Rattle.cnf_reader.specs.Lines.{lineEnd}
+use Rattle.cnf_reader.specs.Lines.{line_end}
 use Rattle.cnf_reader.proofs.ClauseLines.{close-read, close-none}
 use borrow.Author.Rules.{rules}
 use Rattle.cnf_reader.proofs.clause_lines.close_at.Statement.{statement}
@@ -19,13 +19,13 @@ enum_told : tie.Need-enum-told
 enum_told c = search rules
 
 returns : tie.Need-returns
-unfolding lineEnd
+unfolding line_end
 returns c =
     let a = c.before.before.before.before.before.before.args in
     (λ words. close-read _ a.at a.end words _ (rw c.before.next.given.1 at (c.before.before.before.skip_all.ensures 22)), omega arith)
 
 returns-2 : tie.Need-returns-2
-unfolding lineEnd
+unfolding line_end
 returns-2 c =
     let a = c.before.before.before.before.before.args in
     (λ words. close-none _ a.at a.end words (rw c.enum_told.given.1 at (c.before.before.skip_all.ensures 22)), omega arith)

@@ -1,7 +1,7 @@
 -- `clause_lines::literal_at` meets its contract: a literal is its sign and a number of the range. Assumes nothing.
 use native.Mathlib.Omega.{arith}
-use Rattle.cnf_reader.specs.Parts.{decimalSize}
-use Rattle.cnf_reader.specs.Lines.{literalSize}
+use Rattle.cnf_reader.specs.Parts.{decimal_size}
+use Rattle.cnf_reader.specs.Lines.{literal_size}
 use Rattle.cnf_reader.proofs.ClauseLines.{literal-none, literal-turn}
 use borrow.Author.Rules.{rules}
 use Rattle.cnf_reader.proofs.clause_lines.literal_at.Statement.{statement}
@@ -20,7 +20,7 @@ enum_told : tie.Need-enum-told
 enum_told c = search rules
 
 returns : tie.Need-returns
-unfolding literalSize decimalSize
+unfolding literal_size decimal_size
 returns c =
     let read = c.before in
     let sign = read.before.before.before.sign_at in
@@ -29,7 +29,7 @@ returns c =
     (literal-turn _ c.before.before.before.before.before.before.args.at _ _ sign.result.next sign.ensures _ _ number, small)
 
 returns-2 : tie.Need-returns-2
-unfolding literalSize
+unfolding literal_size
 returns-2 c =
     let sign = c.before.before.before.sign_at in
     let number = rw c.enum_told.given.1 at (c.before.before.number_at.ensures.0 22) in

@@ -6,8 +6,8 @@ use mathlib.Core.List.{List}
 use native.Mathlib.Omega.{arith}
 use lib.ListN.{drop}
 use borrow.Author.Rules.{rules}
-use Rattle.definitions.specs.Dimacs.{clausesAt}
-use Rattle.cnf_reader.specs.Lines.{lineEnd, ClausesRead}
+use Rattle.definitions.specs.Dimacs.{clauses_at}
+use Rattle.cnf_reader.specs.Lines.{line_end, ClausesRead}
 use Rattle.cnf_reader.proofs.Clauses.{clauses-end, clauses-none, clauses-turn}
 use Rattle.cnf_reader.proofs.clause_lines.read_clauses.Statement.{statement}
 use Rattle.cnf_reader.proofs.clause_lines.read_clauses.Tie as tie
@@ -16,8 +16,8 @@ abbrev invariant-loop : tie.invariant-loop
 invariant-loop text from atoms clauses starts₀ literals₀ at₀ used₀ i₀ starts literals at used i =
     (i ≤ clauses) × (used + 8 * (clauses - i) ≤ 4608)
     × ((r : Bool) (starts' literals' : List ℕ)
-    → ClausesRead (clausesAt atoms (clauses - i) (drop at text)) i used starts literals r starts' literals'
-    → ClausesRead (clausesAt atoms clauses (drop from text)) 0 0 starts₀ literals₀ r starts' literals')
+    → ClausesRead (clauses_at atoms (clauses - i) (drop at text)) i used starts literals r starts' literals'
+    → ClausesRead (clauses_at atoms clauses (drop from text)) 0 0 starts₀ literals₀ r starts' literals')
 
 abbrev decreases-loop : tie.decreases-loop
 decreases-loop text from atoms clauses starts₀ literals₀ at₀ used₀ i₀ starts literals at used i = clauses - i
@@ -60,7 +60,7 @@ loop-less : tie.Need-loop-smaller invariant-loop decreases-loop
 loop-less c = search rules
 
 loop-again : tie.Need-loop-preserved invariant-loop decreases-loop
-unfolding lineEnd
+unfolding line_end
 loop-again c =
     let l = c.before.before.before.before.before.before.loop in
     let a = c.before.before.before.before.before.before.before.before.args in

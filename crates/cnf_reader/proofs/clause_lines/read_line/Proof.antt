@@ -5,9 +5,9 @@ use mathlib.Core.List.{List}
 use native.Mathlib.Omega.{arith}
 use lib.ListN.{drop}
 use borrow.Author.Rules.{rules}
-use Rattle.definitions.specs.Dimacs.{clauseLineAt}
-use Rattle.cnf_reader.specs.CnfArrays.{numberWord}
-use Rattle.cnf_reader.specs.Lines.{CnfLineRead, literalSize, lineEnd}
+use Rattle.definitions.specs.Dimacs.{clause_line_at}
+use Rattle.cnf_reader.specs.CnfArrays.{number_word}
+use Rattle.cnf_reader.specs.Lines.{CnfLineRead, literal_size, line_end}
 use Rattle.cnf_reader.specs.declared.clause_lines.LineAt.{LineAt}
 use Rattle.cnf_reader.specs.declared.clause_lines.LineAt.TheVariants.{NoLine}
 use Rattle.cnf_reader.proofs.ClauseLines.{line-full, line-close, line-none, line-turn}
@@ -18,8 +18,8 @@ abbrev invariant-loop : tie.invariant-loop
 invariant-loop text from atoms literals₀ used at₀ end₀ left₀ literals at end left =
     (left ≤ 8) × (end + left ≡ used + 8)
     × ((r : LineAt) (after : List ℕ)
-    → CnfLineRead text (clauseLineAt atoms left (drop at text)) end literals r after
-    → CnfLineRead text (clauseLineAt atoms 8 (drop from text)) used literals₀ r after)
+    → CnfLineRead text (clause_line_at atoms left (drop at text)) end literals r after
+    → CnfLineRead text (clause_line_at atoms 8 (drop from text)) used literals₀ r after)
 
 abbrev decreases-loop : tie.decreases-loop
 decreases-loop text from atoms literals₀ used at₀ end₀ left₀ literals at end left = left
@@ -49,7 +49,7 @@ enum-known-negative : tie.Need-enum-known-negative invariant-loop decreases-loop
 enum-known-negative c = search rules
 
 word-requires : tie.Need-word-requires invariant-loop decreases-loop
-unfolding literalSize
+unfolding literal_size
 word-requires c κs = rw c.before.negative.given.1 at c.before.before.before.literal-at.ensures.1
 
 mul-literals : tie.Need-overflow-mul-literals invariant-loop decreases-loop
@@ -62,7 +62,7 @@ enum_told : tie.Need-enum-told invariant-loop decreases-loop
 enum_told c = search rules
 
 returns-2 : tie.Need-returns-2 invariant-loop decreases-loop
-unfolding lineEnd
+unfolding line_end
 returns-2 c =
     let test = c.before.before.before in
     let l = test.before.before.before.loop in
@@ -82,7 +82,7 @@ loop-less : tie.Need-loop-smaller invariant-loop decreases-loop
 loop-less c = search rules
 
 loop-again : tie.Need-loop-preserved invariant-loop decreases-loop
-unfolding numberWord
+unfolding number_word
 loop-again c =
     let test = c.before.before.before.before.before in
     let l = test.before.before.before.loop in

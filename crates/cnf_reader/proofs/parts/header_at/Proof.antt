@@ -1,7 +1,7 @@
 -- `parts::header_at` meets its contract: the name, the atoms and the clauses, each read or not. Assumes nothing.
 use native.Mathlib.Omega.{arith}
 use Rattle.definitions.specs.Text.{bytes}
-use Rattle.cnf_reader.specs.Parts.{decimalSize, headerClauses}
+use Rattle.cnf_reader.specs.Parts.{decimal_size, header_clauses}
 use Rattle.cnf_reader.proofs.Numbers.{header-unnamed, header-no-atoms, header-no-clauses, header-named}
 use borrow.Author.Rules.{rules}
 use Rattle.cnf_reader.proofs.parts.header_at.Statement.{statement}
@@ -20,7 +20,7 @@ enum_told : tie.Need-enum-told
 enum_told c = search rules
 
 returns : tie.Need-returns
-unfolding bytes headerClauses
+unfolding bytes header_clauses
 returns c = (header-unnamed _ (rw c.enum_told.given.1 at (c.before.before.skip_all.ensures 21)), omega arith)
 
 number-at-requires : tie.Need-number-at-requires
@@ -33,7 +33,7 @@ enum-told-2 : tie.Need-enum-told-2
 enum-told-2 c = search rules
 
 returns-2 : tie.Need-returns-2
-unfolding bytes headerClauses
+unfolding bytes header_clauses
 returns-2 c =
     let named = c.before.before.before.before in
     let name = rw named.first.given.1 at (named.before.before.skip_all.ensures 21) in
@@ -49,7 +49,7 @@ enum-told-3 : tie.Need-enum-told-3
 enum-told-3 c = search rules
 
 returns-3 : tie.Need-returns-3
-unfolding bytes headerClauses
+unfolding bytes header_clauses
 returns-3 c =
     let counted = c.before.before.before.before in
     let named = counted.before.before.before.before in
@@ -58,7 +58,7 @@ returns-3 c =
     (header-no-clauses _ _ name _ _ atoms (rw c.enum-told3.given.1 at (c.before.before.number-at2.ensures.0 21)), omega arith)
 
 returns-4 : tie.Need-returns-4
-unfolding bytes headerClauses decimalSize
+unfolding bytes header_clauses decimal_size
 returns-4 c =
     let listed = c.before in
     let counted = listed.before.before.before.before in

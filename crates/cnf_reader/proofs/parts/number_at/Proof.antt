@@ -1,6 +1,6 @@
 -- `parts::number_at` meets its contract, by the decimal, its limits and the byte behind it. Assumes nothing.
 use native.Mathlib.Omega.{arith}
-use Rattle.cnf_reader.specs.Parts.{decimalSize}
+use Rattle.cnf_reader.specs.Parts.{decimal_size}
 use Rattle.cnf_reader.proofs.Numbers.{number-none, number-too-small, number-too-large, number-ended, number-unended}
 use borrow.Author.Rules.{rules}
 use Rattle.cnf_reader.proofs.parts.number_at.Statement.{statement}
@@ -13,13 +13,13 @@ enum-known-size : tie.Need-enum-known-size
 enum-known-size c = search rules
 
 returns : tie.Need-returns
-unfolding decimalSize
+unfolding decimal_size
 returns c =
     let read = c.before.before in
     (λ q. number-too-small _ _ q _ _ _ _ _ (rw read.size.given.1 at (read.before.before.decimal-at.ensures.0 q)) c.if1.true, omega arith)
 
 returns-2 : tie.Need-returns-2
-unfolding decimalSize
+unfolding decimal_size
 returns-2 c =
     let read = c.before.before.before in (
       λ q. number-too-large _ _ q _ _ _ _ _ (rw read.size.given.1 at (read.before.before.decimal-at.ensures.0 q)) c.before.if1.false c.if2.true,
@@ -39,7 +39,7 @@ enum-told-2 : tie.Need-enum-told-2
 enum-told-2 c = search rules
 
 returns-3 : tie.Need-returns-3
-unfolding decimalSize
+unfolding decimal_size
 returns-3 c =
     let tests = c.before.before.before.before in
     let read = tests.before.before.before in
@@ -50,7 +50,7 @@ returns-3 c =
     )
 
 returns-4 : tie.Need-returns-4
-unfolding decimalSize
+unfolding decimal_size
 returns-4 c =
     let tests = c.before.before.before in
     let read = tests.before.before.before in (
@@ -60,7 +60,7 @@ returns-4 c =
     )
 
 returns-5 : tie.Need-returns-5
-unfolding decimalSize
+unfolding decimal_size
 returns-5 c = (λ q. number-none _ _ q _ _ _ (rw c.enum-told2.given.1 at (c.before.before.decimal-at.ensures.0 q)), omega arith)
 
 pub number-at-spec : {M : Type 1} → statement M

@@ -2,13 +2,13 @@
 use Prim.Native.Nat.{ℕ, ◌-◌, ◌≤◌}
 use mathlib.Core.Path.{◌≡◌, ◌∙◌, refl}
 use lib.ListN.{length}
-use Rattle.cnf_reader.proofs.Places.{expectsFrom, expects-turn, expects-nowhere, expects-end}
+use Rattle.cnf_reader.proofs.Places.{expects_from, expects-turn, expects-nowhere, expects-end}
 use borrow.Author.Rules.{rules}
 use Rattle.cnf_reader.proofs.parts.skip_all.Statement.{statement}
 use Rattle.cnf_reader.proofs.parts.skip_all.Tie as tie
 
 abbrev invariant-loop : tie.invariant-loop
-invariant-loop text from bytes at₀ i₀ at i = (i ≤ length bytes) × ((q : ℕ) → expectsFrom text bytes at i q ≡ expectsFrom text bytes from 0 q)
+invariant-loop text from bytes at₀ i₀ at i = (i ≤ length bytes) × ((q : ℕ) → expects_from text bytes at i q ≡ expects_from text bytes from 0 q)
 
 abbrev decreases-loop : tie.decreases-loop
 decreases-loop text from bytes at₀ i₀ at i = length bytes - i
@@ -29,7 +29,7 @@ enum_told : tie.Need-enum-told invariant-loop decreases-loop
 enum_told c = search rules
 
 returns : tie.Need-returns invariant-loop decreases-loop
-unfolding expectsFrom
+unfolding expects_from
 returns c =
     let turn = c.before.before.before.before in
     let l = turn.before.loop in
@@ -50,7 +50,7 @@ loop-again c =
     )
 
 returns-2 : tie.Need-returns-2 invariant-loop decreases-loop
-unfolding expectsFrom
+unfolding expects_from
 returns-2 c = λ q. expects-end _ _ _ _ q c.loop-test.false ∙ c.before.loop.invariant.1 q
 
 pub skip-all-spec : {M : Type 1} → statement M

@@ -2,7 +2,7 @@
 use Prim.Native.Nat.{◌<◌}
 use native.Mathlib.Omega.{arith}
 use borrow.Author.Rules.{rules}
-use Rattle.encoding.specs.Lengths.{literalArray}
+use Rattle.encoding.specs.Lengths.{literal_array}
 use Rattle.counters.proofs.ClauseTurns.{act-conflict, clause-within, place-within, act-force, act-not}
 use Rattle.counters.proofs.asking.act_at.Statement.{statement}
 use Rattle.counters.proofs.asking.act_at.Tie as tie
@@ -43,7 +43,7 @@ first-open-requires c κs =
     clause-within start.args.c start.requires.1 c.before.before.wide.ensures.0 c.wide2.ensures.0
 
 -- the place of its one word that is not false
-within : (c : tie.After-first-open) → c.first-open.result < literalArray
+within : (c : tie.After-first-open) → c.first-open.result < literal_array
 within c =
     let tested = c.before.before.before.before.before in
     let pre = tested.before.before.requires in

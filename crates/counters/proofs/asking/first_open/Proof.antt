@@ -3,14 +3,14 @@ use Prim.Native.Nat.{◌+◌, ◌-◌, ◌≤◌}
 use mathlib.Core.Path.{◌≡◌, refl}
 use native.Mathlib.Omega.{arith}
 use lib.ListN.{take, drop}
-use Rattle.counters.specs.ByNumber.{firstOpen}
+use Rattle.counters.specs.ByNumber.{first_open}
 use Rattle.counters.proofs.ClauseTurns.{open_turn, open-hit, open-end}
 use Rattle.counters.proofs.asking.first_open.Statement.{statement}
 use Rattle.counters.proofs.asking.first_open.Tie as tie
 
 abbrev invariant-loop : tie.invariant-loop
 invariant-loop values literals from end words i₀ i =
-    (i ≤ end) × (i + firstOpen values (take (end - i) (drop i words)) ≡ from + firstOpen values (take (end - from) (drop from words)))
+    (i ≤ end) × (i + first_open values (take (end - i) (drop i words)) ≡ from + first_open values (take (end - from) (drop from words)))
 
 abbrev decreases-loop : tie.decreases-loop
 decreases-loop values literals from end words i₀ i = end - i

@@ -4,7 +4,7 @@ use mathlib.Core.Path.{◌≡◌}
 use mathlib.Core.Bool.{true}
 use native.Mathlib.Omega.{arith}
 use Rattle.bits.specs.Bits.{among}
-use Rattle.units.specs.Units.{actFrom}
+use Rattle.units.specs.Units.{act_from}
 use Rattle.counters.specs.Asking.{its-number, asks-few, ask-next}
 use Rattle.counters.proofs.ActTurns.{fit-first, act-start, act-turn, act-hit, act-hit-force, act-end}
 use borrow.Author.Rules.{rules}
@@ -14,7 +14,7 @@ use Rattle.counters.proofs.asking.next_act.Tie as tie
 abbrev invariant-loop : tie.invariant-loop
 invariant-loop values starts literals heads counts asking given goals clauses c₀ c =
     (c ≤ 640) × (c < clauses → among asking c ≡ true)
-    × (actFrom values starts literals heads given goals c (clauses - c) ≡ actFrom values starts literals heads given goals 0 clauses)
+    × (act_from values starts literals heads given goals c (clauses - c) ≡ act_from values starts literals heads given goals 0 clauses)
 
 abbrev decreases-loop : tie.decreases-loop
 decreases-loop values starts literals heads counts asking given goals clauses c₀ c = 640 - c

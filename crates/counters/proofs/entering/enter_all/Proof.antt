@@ -2,8 +2,8 @@
 use Prim.Native.Nat.{◌-◌, ◌≤◌}
 use mathlib.Core.Path.{◌≡◌}
 use native.Mathlib.Omega.{arith}
-use Rattle.units.specs.Units.{clauseAt}
-use Rattle.counters.specs.Counters.{counters, countersOf}
+use Rattle.units.specs.Units.{clause_at}
+use Rattle.counters.specs.Counters.{counters, counters_of}
 use Rattle.counters.specs.Entering.{clause-inside, clause-part}
 use borrow.Author.Rules.{rules}
 use Rattle.counters.proofs.entering.enter_all.Statement.{statement}
@@ -11,7 +11,7 @@ use Rattle.counters.proofs.entering.enter_all.Tie as tie
 
 abbrev invariant-loop : tie.invariant-loop
 invariant-loop values starts literals rows₀ counts₀ asking₀ clauses c₀ rows counts asking c =
-    (c ≤ clauses) × (counters rows counts asking ≡ countersOf values (λ d. clauseAt starts literals d) c)
+    (c ≤ clauses) × (counters rows counts asking ≡ counters_of values (λ d. clause_at starts literals d) c)
 
 abbrev decreases-loop : tie.decreases-loop
 decreases-loop values starts literals rows₀ counts₀ asking₀ clauses c₀ rows counts asking c = clauses - c

@@ -2,14 +2,14 @@
 use Prim.Native.Nat.{◌≤◌, ◌-◌}
 use mathlib.Core.Path.{◌≡◌}
 use lib.ListN.{length, drop}
-use Rattle.encoding.specs.Slots.{hasTerm}
+use Rattle.encoding.specs.Slots.{has_term}
 use Rattle.encoding.proofs.TermLaws.{term-first, term-second, term-third, term-later, term-end}
 use borrow.Author.Rules.{rules}
 use Rattle.encoding.proofs.slots.has_term.Statement.{statement}
 use Rattle.encoding.proofs.slots.has_term.Tie as tie
 
 abbrev invariant-loop : tie.invariant-loop
-invariant-loop slots v at₀ at = (at ≤ length slots) × (hasTerm v (drop at slots) ≡ hasTerm v slots)
+invariant-loop slots v at₀ at = (at ≤ length slots) × (has_term v (drop at slots) ≡ has_term v slots)
 
 abbrev decreases-loop : tie.decreases-loop
 decreases-loop slots v at₀ at = length slots - at

@@ -1,7 +1,7 @@
 -- `values::put_state` meets its contract: one store for each bit. Assumes nothing.
 use mathlib.Core.Path.{◌∙◌}
 use borrow.Author.Rules.{rules}
-use Rattle.encoding.specs.Values.{putState}
+use Rattle.encoding.specs.Values.{put_state}
 use Rattle.encoding.proofs.values.put_state.Statement.{statement}
 use Rattle.encoding.proofs.values.put_state.Tie as tie
 
@@ -18,7 +18,7 @@ store-bit-requires-2 : tie.Need-store-bit-requires-2
 store-bit-requires-2 c κs = search rules
 
 returns : tie.Need-returns
-unfolding putState
+unfolding put_state
 returns c = c.store-bit2.ensures ∙ rw c.before.before.store-bit.ensures
 
 pub put-state-spec : {M : Type 1} → statement M

@@ -1,6 +1,6 @@
 -- `values::store_bit` meets its contract. Assumes nothing.
 use borrow.Author.Rules.{rules}
-use Rattle.encoding.specs.Values.{storeBit}
+use Rattle.encoding.specs.Values.{store_bit}
 use Rattle.encoding.proofs.values.store_bit.Statement.{statement}
 use Rattle.encoding.proofs.values.store_bit.Tie as tie
 
@@ -20,7 +20,7 @@ element-write-values : tie.Need-element-write-values
 element-write-values c = search rules
 
 returns : tie.Need-returns
-unfolding storeBit
+unfolding store_bit
 returns c = rw c.replace-bit.ensures
 
 pub store-bit-spec : {M : Type 1} → statement M

@@ -2,10 +2,10 @@
 use Prim.Native.Nat.{◌-◌, ◌≤◌}
 use mathlib.Core.List.{map}
 use lib.ListN.{length, drop}
-use Rattle.definitions.specs.Questions.{literals, patternOf}
+use Rattle.definitions.specs.Questions.{literals, pattern_of}
 use Rattle.encoding.specs.Signs.{number_of}
 use Rattle.literals.specs.SlotReads.{argument}
-use Rattle.literals.proofs.Literals.{SlotsSoFar, literalsFrom, fill_start, fill-refused, fill-turn, fill_end}
+use Rattle.literals.proofs.Literals.{SlotsSoFar, literals_from, fill_start, fill-refused, fill-turn, fill_end}
 use borrow.Author.Rules.{rules}
 use Rattle.literals.proofs.slots.fill_slots.Statement.{statement}
 use Rattle.literals.proofs.slots.fill_slots.Tie as tie
@@ -14,7 +14,7 @@ abbrev invariant-loop : tie.invariant-loop
 invariant-loop rule constants arities line from count slots₀ at₀ i₀ slots at i =
     (i ≤ count)
     × (at ≤ length line)
-    × SlotsSoFar (literals (argument rule constants) patternOf arities count (drop from (map number_of line))) (literalsFrom rule constants arities line count at i) i slots₀ slots
+    × SlotsSoFar (literals (argument rule constants) pattern_of arities count (drop from (map number_of line))) (literals_from rule constants arities line count at i) i slots₀ slots
 
 abbrev decreases-loop : tie.decreases-loop
 decreases-loop rule constants arities line from count slots₀ at₀ i₀ slots at i = count - i

@@ -7,8 +7,8 @@ use lib.Seq.{sets}
 use Rattle.definitions.specs.Questions.{arguments}
 use Rattle.encoding.specs.Signs.{number_of}
 use Rattle.literals.specs.SlotReads.{argument}
-use Rattle.encoding.specs.Slots.{termWords}
-use Rattle.literals.proofs.Terms.{TermsSoFar, termsFrom, three-zeros, terms-start, terms-short, terms-refused, terms-turn, terms-end}
+use Rattle.encoding.specs.Slots.{term_words}
+use Rattle.literals.proofs.Terms.{TermsSoFar, terms_from, three-zeros, terms-start, terms-short, terms-refused, terms-turn, terms-end}
 use borrow.Author.Rules.{rules}
 use Rattle.literals.proofs.slots.read_terms.Statement.{statement}
 use Rattle.literals.proofs.slots.read_terms.Tie as tie
@@ -17,8 +17,8 @@ abbrev invariant-loop : tie.invariant-loop
 invariant-loop rule constants line at arity slots₀ base second third j₀ slots j =
     (j ≤ arity)
     × ((before : List ℕ)
-    → slots₀ ≡ sets before base (termWords [])
-    → TermsSoFar (arguments (argument rule constants) arity (drop at (map number_of line))) (termsFrom rule constants line at arity j) j base before slots)
+    → slots₀ ≡ sets before base (term_words [])
+    → TermsSoFar (arguments (argument rule constants) arity (drop at (map number_of line))) (terms_from rule constants line at arity j) j base before slots)
 
 abbrev decreases-loop : tie.decreases-loop
 decreases-loop rule constants line at arity slots₀ base second third j₀ slots j = arity - j

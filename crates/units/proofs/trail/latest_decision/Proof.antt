@@ -2,13 +2,13 @@
 use Prim.Native.Nat.{◌≤◌}
 use mathlib.Core.Path.{◌≡◌, refl}
 use borrow.Author.Rules.{rules}
-use Rattle.units.specs.TrailWords.{latestDecision}
+use Rattle.units.specs.TrailWords.{latest_decision}
 use Rattle.units.proofs.TrailTurns.{decision-hit, decision-turn, decision-end}
 use Rattle.units.proofs.trail.latest_decision.Statement.{statement}
 use Rattle.units.proofs.trail.latest_decision.Tie as tie
 
 abbrev invariant-loop : tie.invariant-loop
-invariant-loop marks n i₀ i = (i ≤ n) × (latestDecision marks i ≡ latestDecision marks n)
+invariant-loop marks n i₀ i = (i ≤ n) × (latest_decision marks i ≡ latest_decision marks n)
 
 abbrev decreases-loop : tie.decreases-loop
 decreases-loop marks n i₀ i = i
