@@ -39,6 +39,7 @@ module _ {A : Type 0} (same : A → A → Bool) where
         by-test (same y x)
         (λ e. Memᴰ.head (sym (eq y x e)))
         (λ e. Memᴰ.tail (filter-of _ (distinct same ys) x (distinct_of ys x m) (cc)))
+    distinct_of [] x m = elim m [ ]
 
     -- a test passes all elements where it passes the different ones
     pub all-distinct : (p : A → Bool) (xs : List A) → all p (distinct same xs) ≡ all p xs

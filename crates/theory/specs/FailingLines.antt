@@ -315,6 +315,11 @@ module _ (d : Draft) (l : Line) where
         | unconnected is r on f ↦ let (h, a) = head_apart r f in record { rule = r; typed = on; head = h; apart = a }
       ]
 
+  free-term : (r : Rule) (x : Pattern) (t : Term) → RuleOn d l r → x ∈ r.body → t ∈ x.terms → in_head r.heads t ≡ false → FreeVariable d l
+  unfolding in_head
+  free-term r x (variable v) on m n f = record { rule = r; typed = on; literal = x; inside = m; free = v; here = n; nowhere = f }
+  free-term r x (constant c) on m n f = apart (cc)
+
   -- and 12 only where a variable of its body stands in no head
   pub fails-12 : read_line d l ≡ no 12 → FreeVariable d l
   fails-12 e =
@@ -325,11 +330,6 @@ module _ (d : Draft) (l : Line) where
         | unconnected is r on f ↦ absurd (omega arith)
       ]
     where
-      free-term : (r : Rule) (x : Pattern) (t : Term) → RuleOn d l r → x ∈ r.body → t ∈ x.terms → in_head r.heads t ≡ false → FreeVariable d l
-      free-term r x (variable v) on m n f =
-          record { rule = r; typed = on; literal = x; inside = m; free = v; here = n; nowhere = unfold in_head in f }
-      free-term r x (constant c) on m n f = unfold in_head in apart (cc)
-
       free-variable : (r : Rule) → RuleOn d l r → restricted r ≡ false → FreeVariable d l
       free-variable r on f =
           let (x, m, g) = all-fails (λ (p : Pattern). all (in_head r.heads) p.terms) r.body (unfold restricted in f) in

@@ -102,6 +102,7 @@ module _ {A : Type 0} (p : A → Bool) where
   unfolding any
   any_of (y ∷ ys) x (Memᴰ.head q) h = cc
   any_of (y ∷ ys) x (Memᴰ.tail m) h = by-test (p y) (λ e. cc) (λ e. cc (any_of ys x m h))
+  any_of [] x m h = elim m [ ]
 
   pub any_none : (xs : List A) → any p xs ≡ false → (x : A) → x ∈ xs → p x ≡ false
   any_none xs h x m = by-test (p x) (λ e. cc (any_of xs x m e)) (λ e. e)
@@ -118,6 +119,7 @@ module _ {A : Type 0} (p : A → Bool) where
   unfolding all
   all-each (y ∷ ys) h x (Memᴰ.head q) = by-test (p y) (λ e. cc) (λ e. cc)
   all-each (y ∷ ys) h x (Memᴰ.tail m) = by-test (p y) (λ e. all-each ys (cc) x m) (λ e. cc)
+  all-each [] h x m = elim m [ ]
 
   pub all_of : (xs : List A) → ((x : A) → x ∈ xs → p x ≡ true) → all p xs ≡ true
   unfolding all
@@ -139,6 +141,7 @@ module _ {A : Type 0} (p : A → Bool) where
       rw (e, filter) (Memᴰ.head q)
   filter-of (y ∷ ys) x (Memᴰ.tail m) h =
       by-test (p y) (λ e. rw (e, filter) (Memᴰ.tail (filter-of ys x m h))) (λ e. rw (e, filter) (filter-of ys x m h))
+  filter-of [] x m h = elim m [ ]
 
   pub filter-in : (xs : List A) (x : A) → x ∈ filter p xs → (x ∈ xs) × (p x ≡ true)
   unfolding filter
@@ -209,6 +212,7 @@ module _ {A B : Type 0} (f : A → List B) where
   unfolding joined
   joined_of (z ∷ zs) x y (Memᴰ.head q) n = Memᴰ.append_left (joined f zs) (rw q at n)
   joined_of (z ∷ zs) x y (Memᴰ.tail m) n = Memᴰ.append_right (f z) (joined_of zs x y m n)
+  joined_of [] x y m n = elim m [ ]
 
   pub joined_in : (xs : List A) (y : B) → y ∈ joined f xs → (x : A) × (x ∈ xs) × (y ∈ f x)
   unfolding joined
