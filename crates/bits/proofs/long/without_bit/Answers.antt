@@ -4,20 +4,13 @@ use mathlib.Core.Path.{◌≡◌, ap}
 use mathlib.Core.Bool.{true}
 use borrow.Author.Rules.{rules}
 use Rattle.bits.specs.Bits.{has, has-taken, one_shifted}
-use Rattle.bits.proofs.long.without_bit.Statement.{statement}
-use Rattle.bits.proofs.long.without_bit.Tie as tie
+use Rattle.bits.proofs.long.without_bit.Goals as goal
 
 at_most : (m c : ℕ) → c < 64 → has c m ≡ true → (1 * 2 ^ c) % 2 ^ 64 ≤ m
 at_most m c l h = rw (one_shifted 64 c l) (has-taken c c m h).0
 
-shl-result : tie.Need-overflow-shl-result
-shl-result c = search rules
+pub overflow_sub-result : goal.overflow_sub-result
+overflow_sub-result c = at_most c.args.m c.args.c c.requires.0 c.requires.1
 
-sub-result : tie.Need-overflow-sub-result
-sub-result c = at_most c.args.m c.args.c c.requires.0 c.requires.1
-
-returns : tie.Need-returns
+pub returns : goal.returns
 returns c = ap (λ (x : ℕ). c.args.m - x) (one_shifted 64 c.args.c c.requires.0)
-
-pub without-bit-spec : {M : Type 1} → statement M
-without-bit-spec = tie.close (tie.spec shl-result sub-result returns)

@@ -5,8 +5,7 @@ use native.Mathlib.Omega.{arith}
 use lib.Count.{count_trailing_zeros}
 use borrow.Author.Rules.{rules}
 use Rattle.bits.specs.Bits.{lowest, one_shifted}
-use Rattle.bits.proofs.without_lowest.Statement.{statement}
-use Rattle.bits.proofs.without_lowest.Tie as tie
+use Rattle.bits.proofs.without_lowest.Goals as goal
 
 shifted : (m c : ℕ) → 0 < m → m < 2 ^ 32 → c ≡ count_trailing_zeros 32 m → (c < 32) × ((1 * 2 ^ c) % 2 ^ 32 ≡ 2 ^ c) × ((1 * 2 ^ c) % 2 ^ 32 ≤ m)
 shifted m c p l e =
@@ -14,17 +13,14 @@ shifted m c p l e =
     let exact : (1 * 2 ^ c) % 2 ^ 32 ≡ 2 ^ c = one_shifted 32 c (omega arith) in
     (omega arith, exact, rw (exact, e) a)
 
-cast-result : tie.Need-overflow-cast-result
-cast-result c = omega (arith, (shifted c.args.m c.args.c c.requires.0 (search rules) c.requires.1).0)
+pub overflow_cast-result : goal.overflow_cast-result
+overflow_cast-result c = omega (arith, (shifted c.args.m c.args.c c.requires.0 (search rules) c.requires.1).0)
 
-shl-result : tie.Need-overflow-shl-result
-shl-result c = omega (arith, (shifted c.args.m c.args.c c.requires.0 (search rules) c.requires.1).0)
+pub overflow_shl-result : goal.overflow_shl-result
+overflow_shl-result c = omega (arith, (shifted c.args.m c.args.c c.requires.0 (search rules) c.requires.1).0)
 
-sub-result : tie.Need-overflow-sub-result
-sub-result c = (shifted c.args.m c.args.c c.requires.0 (search rules) c.requires.1).2
+pub overflow_sub-result : goal.overflow_sub-result
+overflow_sub-result c = (shifted c.args.m c.args.c c.requires.0 (search rules) c.requires.1).2
 
-returns : tie.Need-returns
+pub returns : goal.returns
 returns c = ap (λ (x : ℕ). c.args.m - x) (shifted c.args.m c.args.c c.requires.0 (search rules) c.requires.1).1
-
-pub without-lowest-spec : {M : Type 1} → statement M
-without-lowest-spec = tie.close (tie.spec cast-result shl-result sub-result returns)
