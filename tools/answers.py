@@ -101,6 +101,8 @@ def flattened(text, f):
 
     text = re.sub(r"(?<![\w'.])(\w+)(?:\.([\w-]+))?\.new((?:\.[01])+)(?![\w.]*[01])", lent, text)
 
+    text = text.replace(".type-inv", ".type_inv")
+
     def told(m):
         path = tuple(m[2][1:].split("."))
         new = f.told.get((norm(m[1]), path))
@@ -203,7 +205,7 @@ def turn(path, f, crate, module):
                 unfold.append(body.pop(0))
             body = "\n".join(body)
             goal = f.goal(old[2])
-            if TRIVIAL.fullmatch(body):
+            if TRIVIAL.fullmatch(body) and not unfold:
                 continue
             if goal is None:
                 comment.append(f"-- look: {old[2]} is no goal today")
