@@ -19,6 +19,34 @@ TRIVIAL = re.compile(r"\S+ (?:\w+ )*?c(?: κs)? = (?:search rules|\(search rules
 TOKEN = r"(?<![\w'₀·-])%s(?![\w'₀-])"
 
 
+# of each function, by its path: the names of its `requires` and of its `ensures`
+CLAUSES = {}
+
+
+def read_clauses():
+    for folder, below, files in os.walk("crates"):
+        below[:] = [x for x in below if x != "out"]
+        for name in files:
+            if not name.endswith(".rt"):
+                continue
+            parts = os.path.join(folder, name).split(os.sep)
+            crate, module = parts[1], [x.removesuffix(".rt") for x in parts[3:]]
+            module = [] if module == ["lib"] or module == ["main"] else [x for x in module if x != "mod"]
+            with open(os.path.join(folder, name), encoding="utf-8") as file:
+                text = file.read()
+            inside = None
+            for m in re.finditer(r"^impl(?:<.*?>)? (\w+)|^ *(?:pub )?(?:const )?(?:unsafe )?(?:extern \"C\" )?fn (\w+)|^ +(requires|ensures)\*? ?(\w*) ?\{|^\}", text, re.M):
+                if m[1]:
+                    inside = m[1]
+                elif m[2]:
+                    path = "::".join([crate, *module, *([inside] if inside else []), m[2]])
+                    CLAUSES[path] = ([], [])
+                elif m[3]:
+                    CLAUSES[path][m[3] == "ensures"].append(m[4])
+                else:
+                    inside = None
+
+
 def norm(name):
     return name.replace("_", "-")
 
@@ -50,6 +78,13 @@ class Function:
                 if path and path[0] == "given":
                     self.told[norm(field), tuple(path)] = f"{arm[0]}.{name}"
         self.asked = entry["asked"]
+        # the names of the clauses, of callees and of the function itself
+        self.clauses = {}
+        for _old, _above, (_o, new), callee, _more in entry["places"]:
+            ensures = CLAUSES.get(callee or "", ([], []))[1]
+            if len(ensures) > 1:
+                self.clauses[new] = ensures
+        self.requires = []
 
     def goal(self, old):
         """Today's name of a goal, by the name that its type had."""
@@ -74,7 +109,7 @@ def flattened(text, f):
     changed = True
     while changed:
         changed = False
-        m = re.search(r"\n?[ ]*let (\w+) = ([\w]+)((?:\.before)+) in(?=[ \n])", text)
+        m = re.search(r"\n?[ ]*let ([\w-]+) = ([\w]+)((?:\.before)+) in(?=[ \n])", text)
         if m:
             name = m[1]
             text = text[: m.start()] + text[m.end():]
@@ -84,7 +119,7 @@ def flattened(text, f):
     text = re.sub(r"(?:\.before)+(?![\w'-])", "", text)
 
     # what a call leaves in what it was lent: a tuple's place is a name today
-    lets = dict(re.findall(r"let (\w+) = c\.([\w-]+) in", text))
+    lets = dict(re.findall(r"let ([\w-]+) = c\.([\w-]+) in", text))
 
     def lent(m):
         field = lets.get(m[1], m[2])
@@ -110,11 +145,66 @@ def flattened(text, f):
 
     text = re.sub(r"\.([a-z][\w-]*)(\.given(?:\.[01])+)(?![\w'-])", told, text)
 
-    def field(m):
-        new = f.fields.get(norm(m[1]))
-        return "." + (new if new else m[1])
+    others = set(re.findall(r"let ([\w-]+) = ", text))
 
-    text = re.sub(r"\.([a-z][\w-]*)(?![\w'-])", field, text)
+    def field(m):
+        new = None if m[1] in others else f.fields.get(norm(m[2]))
+        return f"{m[1]}.{new or m[2]}"
+
+    text = re.sub(r"(?<![\w'.-])([\w-]+)\.([a-z-][\w-]*)(?![\w'-])", field, text)
+    # a test of a negation tells what it negates
+    text = re.sub(r"not-(true|false) _ (\w+\.if-not-[\w-]+\.(?:true|false))", r"\2", text)
+    # a clause that has a name is cited by it
+    for new, names in f.clauses.items():
+        text = re.sub(r"(?<![\w'.-])(\w+)\." + re.escape(new) + r"\.ensures\.([0-9])(?![0-9])", lambda m: f"{m[1]}.{new}.ensures.{names[int(m[2])]}" if int(m[2]) < len(names) else m[0], text)
+    if len(f.requires) > 1:
+        text = re.sub(r"(?<![\w'.-])(\w+)\.requires\.([0-9])(?![0-9])", lambda m: f"{m[1]}.requires.{f.requires[int(m[2])]}" if m[1] not in others and int(m[2]) < len(f.requires) else m[0], text)
+    return text
+
+
+def expanded(text, given):
+    """The helpers over a step's facts, written out at their uses."""
+    for name, params, types, body in given:
+        at = 0
+        while True:
+            m = re.compile(r"(?<![\w'.-])" + re.escape(name) + r"(?![\w'.-])").search(text, at)
+            if not m:
+                break
+            i, args = m.end(), []
+            while len(args) < len(params) and i < len(text) and text[i] == " ":
+                i += 1
+                start = i
+                depth = 0
+                while i < len(text) and (depth or text[i] not in " \n),;]"):
+                    depth += text[i] in "([{"
+                    depth -= text[i] in ")]}"
+                    i += 1
+                args.append(text[start:i])
+            if len(args) < len(params):
+                at = m.end()
+                continue
+            term, type_ = body, types
+            for p, a in zip(params, args):
+                a = a[1:-1] if re.fullmatch(r"\(\w+\)", a) else a
+                term = re.sub(r"(?<![\w'.-])" + re.escape(p) + r"(?![\w'-])", lambda _m: a, term)
+                type_ = type_ and re.sub(r"(?<![\w'.-])" + re.escape(p) + r"(?![\w'-])", lambda _m: a, type_)
+            term = term.strip()
+            if re.fullmatch(r"[\w.-]+", term):
+                new = term
+            elif type_:
+                new = f"(let it : {type_} = {term} in it)"
+            else:
+                new = f"({term})"
+            if m.start() and text[m.start() - 1] == "(" and i < len(text) and text[i] == ")":
+                text = text[: m.start() - 1] + new + text[i + 1:]
+                at = m.start() - 1
+            else:
+                text = text[: m.start()] + new + text[i:]
+                at = m.start()
+            if re.fullmatch(r"[\w.-]+", new):
+                at += 0
+            else:
+                at += len(new)
     return text
 
 
@@ -180,6 +270,7 @@ def turn(path, f, crate, module):
     with open(path, encoding="utf-8") as file:
         text = file.read()
     head, uses, given, answers = [], [], [], []
+    helpers, unfolded = [], []
     for block in blocks(text):
         lines = block.split("\n")
         while lines and lines[0].startswith("--") and not uses and not answers and not given:
@@ -213,16 +304,36 @@ def turn(path, f, crate, module):
             m = re.match(re.escape(old[1]) + r"((?: [\wκμ']+)*) =", body)
             args = m[1].replace(" κs", "") if m else " c"
             rest = body[m.end():] if m else body
-            rest = flattened(rest, f)
-            if goal in f.asked:
-                rest = recorded(rest, f.asked[goal])
+            rest = flattened(expanded(flattened(rest, f), helpers), f)
+            if unfolded and not unfold:
+                unfold = ["unfolding " + " ".join(unfolded)]
+            elif unfolded:
+                unfold[0] += "".join(" " + x for u in unfolded for x in u.split() if x not in unfold[0].split())
+            asked = next((f.asked[was] for was, now in f.needs if now == goal and was in f.asked), None)
+            if asked:
+                rest = recorded(rest, asked)
             answers.append("\n".join(comment + [f"pub {goal} : goal.{goal}"] + unfold + [f"{goal}{args} ={rest}"]))
         else:
             block = flattened(block, f)
             def place(m):
                 return "goal." + f.places.get(norm(m[1]), m[1])
+            typed = "tie." in block
             block = re.sub(r"tie\.([\w-]+)((?: invariant-\S+| decreases-[\w-]+)*)", place, block)
-            answers.append("\n".join(comment + [block]))
+            m = re.fullmatch(r"(?:abbrev )?(\S+) : (.*?)\n((?:unfolding [^\n]*\n)?)\1((?: [\w']+)+) =(.*)", block, re.S)
+            if typed and m:
+                sign, params = m[2], m[4].split()
+                result = re.split(r" →\s*|\n\s*→ ", sign)
+                lasting = None
+                named = re.match(r"\((\w+) : goal\.[^)]*\)\s*→ (.*)", sign, re.S)
+                if named and len(params) == 1:
+                    lasting = named[2].strip()
+                    lasting = re.sub(r"(?<![\w'.-])" + re.escape(named[1]) + r"(?![\w'-])", params[0], lasting)
+                    lasting = expanded(lasting, helpers)
+                helpers.append((m[1], params, lasting, expanded(m[5], helpers)))
+                if m[3]:
+                    unfolded.append(m[3][len("unfolding "):].strip())
+            else:
+                answers.append("\n".join(comment + [expanded(block, helpers)]))
     folder = os.path.dirname(path)
     top = f"Rattle.{crate}.proofs.{module}"
     if given:
@@ -235,6 +346,7 @@ def turn(path, f, crate, module):
 
 
 def main():
+    read_clauses()
     for crate in sys.argv[1:]:
         names = names_of(crate)
         for folder, below, files in os.walk(f"crates/{crate}/proofs"):
@@ -246,7 +358,9 @@ def main():
             if key not in names:
                 print(f"look: {folder}: no names")
                 continue
-            turn(os.path.join(folder, "Proof.antt"), Function(names[key]), crate, module)
+            f = Function(names[key])
+            f.requires = CLAUSES.get("::".join([crate, *module.split(".")]), ([], []))[0]
+            turn(os.path.join(folder, "Proof.antt"), f, crate, module)
 
 
 if __name__ == "__main__":

@@ -1,21 +1,21 @@
 -- Arrays that are lent to a function: what they hold when it is called and when it is done. The arrays of a search are records in the
 -- grain in which functions change them. Assumes nothing.
 use Rattle.std.specs.Prelude.{ℕ, ◌≡◌, List}
-use Rattle.std.specs.Borrow.{Bor}
+use Rattle.std.proofs.Common.{MutBor}
 use denote.Triple.Both.{Both}
 use Rattle.encoding.specs.Encoding.{Arrays, arrays}
 use Rattle.encoding.specs.Values.{Values}
 
 -- an array as a `requires` names it, and at both moments, as an `ensures` does
 abbrev pub Array : Type 0
-Array = Bor (List ℕ)
+Array = MutBor (List ℕ)
 
 abbrev pub Lent : Type 0
 Lent = Both Array Array
 
 -- the states of atoms likewise
 abbrev pub ValueArray : Type 0
-ValueArray = Bor Values
+ValueArray = MutBor Values
 
 abbrev pub LentValues : Type 0
 LentValues = Both ValueArray ValueArray
