@@ -21,6 +21,8 @@ TOKEN = r"(?<![\w'₀·-])%s(?![\w'₀-])"
 
 # of each function, by its path: the names of its `requires` and of its `ensures`
 CLAUSES = {}
+# and the arrays that it reads as slices
+WHOLE = {}
 
 
 def read_clauses():
@@ -41,10 +43,15 @@ def read_clauses():
                 elif m[2]:
                     path = "::".join([crate, *module, *([inside] if inside else []), m[2]])
                     CLAUSES[path] = ([], [])
+                    WHOLE[path] = re.findall(r"let _whole: [^=]*= (?:&)?(\w+);", text[m.start():].split("\n}", 1)[0])
                 elif m[3]:
                     CLAUSES[path][m[3] == "ensures"].append(m[4])
                 else:
                     inside = None
+
+
+# stands before a step's name that is today's already
+DONE = "\x01"
 
 
 def norm(name):
@@ -85,6 +92,7 @@ class Function:
             if len(ensures) > 1:
                 self.clauses[new] = ensures
         self.requires = []
+        self.whole = []
 
     def goal(self, old):
         """Today's name of a goal, by the name that its type had."""
@@ -109,7 +117,9 @@ def flattened(text, f):
     changed = True
     while changed:
         changed = False
-        m = re.search(r"\n?[ ]*let ([\w-]+) = ([\w]+)((?:\.before)+) in(?=[ \n])", text)
+        while re.search(r"(?<![\w'.-])\((\w+)\)(?=[.\s)])", text):
+            text = re.sub(r"(?<![\w'.-])\((\w+)\)(?=[.\s)])", r"\1", text)
+        m = re.search(r"\n?[ ]*let ([\w-]+) = (c|[\w]+(?=\.before))((?:\.before)*) in(?=[ \n])", text)
         if m:
             name = m[1]
             text = text[: m.start()] + text[m.end():]
@@ -149,63 +159,82 @@ def flattened(text, f):
 
     def field(m):
         new = None if m[1] in others else f.fields.get(norm(m[2]))
-        return f"{m[1]}.{new or m[2]}"
+        return f"{m[1]}.{DONE + new if new else m[2]}"
 
     text = re.sub(r"(?<![\w'.-])([\w-]+)\.([a-z-][\w-]*)(?![\w'-])", field, text)
+    return text
+
+
+def finished(text, f):
+    """What is left once all steps have their names."""
+    text = text.replace(DONE, "")
+    text = re.sub(r"(?<![\w'.])\((\w+)\)\.", r"\1.", text)
+    # names of facts that have changed
+    text = re.sub(r"(?<![\w'.-])c\.pre\b", "c.requires", text)
+    text = re.sub(r"(\.(?:[\w-]+-test|if-[\w-]+))\.taken\b", r"\1.true", text)
+    text = re.sub(r"(\.(?:[\w-]+-test|if-[\w-]+))\.left\b", r"\1.false", text)
+    text = re.sub(r"\.inv\b", ".invariant", text)
+    # the length of an array that is read as a slice
+    if len(f.whole) == 1:
+        text = re.sub(r"\bc\._whole(-\d+)?-1\.given\.0", f"c.told-{f.whole[0]}", text)
     # a test of a negation tells what it negates
     text = re.sub(r"not-(true|false) _ (\w+\.if-not-[\w-]+\.(?:true|false))", r"\2", text)
+    text = re.sub(r"\(ap not (\(.*?\)|[\w.-]+) ∙ (\w+\.if-not-[\w-]+\.(?:true|false))\)", r"(ap not (\1 ∙ \2))", text)
     # a clause that has a name is cited by it
     for new, names in f.clauses.items():
         text = re.sub(r"(?<![\w'.-])(\w+)\." + re.escape(new) + r"\.ensures\.([0-9])(?![0-9])", lambda m: f"{m[1]}.{new}.ensures.{names[int(m[2])]}" if int(m[2]) < len(names) else m[0], text)
     if len(f.requires) > 1:
-        text = re.sub(r"(?<![\w'.-])(\w+)\.requires\.([0-9])(?![0-9])", lambda m: f"{m[1]}.requires.{f.requires[int(m[2])]}" if m[1] not in others and int(m[2]) < len(f.requires) else m[0], text)
+        text = re.sub(r"(?<![\w'.-])c\.requires\.([0-9])(?![0-9])", lambda m: f"c.requires.{f.requires[int(m[1])]}" if int(m[1]) < len(f.requires) else m[0], text)
     return text
 
 
 def expanded(text, given):
-    """The helpers over a step's facts, written out at their uses."""
-    for name, params, types, body in given:
-        at = 0
+    """The helpers over a step's facts: a fact by a let before the answer, what is no fact written out at its use."""
+    lets = ""
+    for name, params, type_, body in reversed(given):
+        at, found = 0, False
         while True:
-            m = re.compile(r"(?<![\w'.-])" + re.escape(name) + r"(?![\w'.-])").search(text, at)
+            m = re.compile(r"(?<![\w'.-])" + re.escape(name) + r"(?![\w'.-])").search(lets + text, at)
             if not m:
                 break
+            whole = lets + text
             i, args = m.end(), []
-            while len(args) < len(params) and i < len(text) and text[i] == " ":
+            while len(args) < len(params) and i < len(whole) and whole[i] == " ":
                 i += 1
-                start = i
-                depth = 0
-                while i < len(text) and (depth or text[i] not in " \n),;]"):
-                    depth += text[i] in "([{"
-                    depth -= text[i] in ")]}"
+                start, depth = i, 0
+                while i < len(whole) and (depth or whole[i] not in " \n),;]"):
+                    depth += whole[i] in "([{"
+                    depth -= whole[i] in ")]}"
                     i += 1
-                args.append(text[start:i])
+                args.append(whole[start:i])
             if len(args) < len(params):
                 at = m.end()
                 continue
-            term, type_ = body, types
-            for p, a in zip(params, args):
-                a = a[1:-1] if re.fullmatch(r"\(\w+\)", a) else a
-                term = re.sub(r"(?<![\w'.-])" + re.escape(p) + r"(?![\w'-])", lambda _m: a, term)
-                type_ = type_ and re.sub(r"(?<![\w'.-])" + re.escape(p) + r"(?![\w'-])", lambda _m: a, type_)
-            term = term.strip()
-            if re.fullmatch(r"[\w.-]+", term):
-                new = term
-            elif type_:
-                new = f"(let it : {type_} = {term} in it)"
+            split = len(lets)
+            if type_:
+                new, found = name, True
             else:
-                new = f"({term})"
-            if m.start() and text[m.start() - 1] == "(" and i < len(text) and text[i] == ")":
-                text = text[: m.start() - 1] + new + text[i + 1:]
-                at = m.start() - 1
+                term = body
+                for p, a in zip(params, args):
+                    term = re.sub(r"(?<![\w'.-])" + re.escape(p) + r"(?![\w'-])", lambda _m: a, term)
+                term = term.strip()
+                new = term if re.fullmatch(r"[\w.-]+", term) else f"({term})"
+            begin = m.start()
+            if begin and whole[begin - 1] == "(" and i < len(whole) and whole[i] == ")":
+                begin, i = begin - 1, i + 1
+            whole = whole[:begin] + new + whole[i:]
+            if begin < split:
+                lets, text = whole[: split + len(new) - (i - begin)], whole[split + len(new) - (i - begin):]
             else:
-                text = text[: m.start()] + new + text[i:]
-                at = m.start()
-            if re.fullmatch(r"[\w.-]+", new):
-                at += 0
-            else:
-                at += len(new)
-    return text
+                lets, text = whole[:split], whole[split:]
+            at = begin + len(new)
+        if found:
+            term = re.sub(r"(?<![\w'.-])" + re.escape(params[0]) + r"(?![\w'-])", "c", body).rstrip()
+            kind = re.sub(r"(?<![\w'.-])" + re.escape(params[0]) + r"(?![\w'-])", "c", type_).strip()
+            lets = f"\n    let {name} : {kind} =" + re.sub(r"\n", "\n    ", term) + "\n    in" + lets
+    if not lets:
+        return text
+    return lets + ("\n   " + text if text.startswith(" ") else text)
 
 
 def recorded(term, names):
@@ -288,7 +317,9 @@ def turn(path, f, crate, module):
             continue
         elif re.match(r"abbrev (pub )?(invariant|decreases)-", lines[0]):
             given.append("\n".join(comment + [invariant(block, f)[0]]))
-        elif re.match(r"\S+ : tie\.Need-", lines[0]):
+        elif re.match(r"\S+ :(?: tie\.Need-|$)", lines[0]):
+            if lines[0].endswith(" :"):
+                lines[:2] = [lines[0] + " " + lines[1].strip()]
             old = re.match(r"(\S+) : tie\.Need-(\S+)", lines[0])
             body = lines[1:]
             unfold = []
@@ -304,7 +335,7 @@ def turn(path, f, crate, module):
             m = re.match(re.escape(old[1]) + r"((?: [\wκμ']+)*) =", body)
             args = m[1].replace(" κs", "") if m else " c"
             rest = body[m.end():] if m else body
-            rest = flattened(expanded(flattened(rest, f), helpers), f)
+            rest = finished(flattened(expanded(flattened(rest, f), helpers), f), f)
             if unfolded and not unfold:
                 unfold = ["unfolding " + " ".join(unfolded)]
             elif unfolded:
@@ -328,12 +359,11 @@ def turn(path, f, crate, module):
                 if named and len(params) == 1:
                     lasting = named[2].strip()
                     lasting = re.sub(r"(?<![\w'.-])" + re.escape(named[1]) + r"(?![\w'-])", params[0], lasting)
-                    lasting = expanded(lasting, helpers)
-                helpers.append((m[1], params, lasting, expanded(m[5], helpers)))
+                helpers.append((m[1], params, lasting, m[5]))
                 if m[3]:
                     unfolded.append(m[3][len("unfolding "):].strip())
             else:
-                answers.append("\n".join(comment + [expanded(block, helpers)]))
+                answers.append("\n".join(comment + [finished(expanded(block, helpers), f)]))
     folder = os.path.dirname(path)
     top = f"Rattle.{crate}.proofs.{module}"
     if given:
@@ -359,6 +389,7 @@ def main():
                 print(f"look: {folder}: no names")
                 continue
             f = Function(names[key])
+            f.whole = WHOLE.get("::".join([crate, *module.split(".")]), [])
             f.requires = CLAUSES.get("::".join([crate, *module.split(".")]), ([], []))[0]
             turn(os.path.join(folder, "Proof.antt"), f, crate, module)
 

@@ -5,6 +5,7 @@ use denote.Triple.Both.{Both}
 use Rattle.bits.specs.Bits.{has, packed, among}
 use Rattle.definitions.specs.Lists.{any, filter, distinct, up_from}
 use Rattle.definitions.specs.ClauseNumbers.{Numbers}
+use Rattle.std.proofs.Common.{Bor}
 use Rattle.encoding.specs.Lent.{Array, Lent}
 use Rattle.encoding.specs.Values.{Values, true_word}
 use Rattle.units.specs.Units.{not_false_words}
@@ -73,3 +74,10 @@ counters_now rows counts asking = counters rows.now counts.now asking.now
 
 abbrev pub lent_counters : Lent → Lent → Lent → Both Counters Counters
 lent_counters rows counts asking = record { entry = counters_now rows.entry counts.entry asking.entry; exit = counters_now rows.exit counts.exit asking.exit }
+
+-- where the rows are only read
+abbrev pub counts_now : Bor (List ℕ) → Array → Array → Counters
+counts_now rows counts asking = counters rows.now counts.now asking.now
+
+abbrev pub lent_counts : Both (Bor (List ℕ)) (Bor (List ℕ)) → Lent → Lent → Both Counters Counters
+lent_counts rows counts asking = record { entry = counts_now rows.entry counts.entry asking.entry; exit = counts_now rows.exit counts.exit asking.exit }

@@ -2,7 +2,7 @@
 ghost use Rattle.std.specs.Prelude.{◌-◌, ◌≤◌, ◌<◌, take, drop};
 ghost use Rattle.encoding.specs.Values.{Values, assigned, unassigned};
 ghost use Rattle.units.specs.TrailWords.{cleared};
-ghost use Rattle.counters.specs.Counters.{counters_now, lent_counters};
+ghost use Rattle.counters.specs.Counters.{counters_now, lent_counters, counts_now, lent_counts};
 ghost use Rattle.counters.specs.Setting.{CountersFit, IsUnset, IsSet, StayKept};
 ghost use Rattle.counters.specs.Undoing.{Undoable};
 
@@ -17,9 +17,9 @@ pub fn count_set(
     words: usize,
     w: u16,
 )
-    requires { (w < 512) × (words ≤ 10) × ((values : Values) × IsUnset values w × CountersFit values words (counters_now rows counts asking)) }
+    requires { (w < 512) × (words ≤ 10) × ((values : Values) × IsUnset values w × CountersFit values words (counts_now rows counts asking)) }
     ensures { (values : Values) → IsUnset values w
-        → StayKept words values (lent_counters rows counts asking).entry (assigned values w) (lent_counters rows counts asking).exit }
+        → StayKept words values (lent_counts rows counts asking).entry (assigned values w) (lent_counts rows counts asking).exit }
 {
     let other = values::other_sign(w);
     passes::over_row(rows, counts, asking, w, words, 256, 0);
@@ -34,9 +34,9 @@ pub fn count_undo(
     words: usize,
     w: u16,
 )
-    requires { (w < 512) × (words ≤ 10) × ((values : Values) × IsSet values w × CountersFit values words (counters_now rows counts asking)) }
+    requires { (w < 512) × (words ≤ 10) × ((values : Values) × IsSet values w × CountersFit values words (counts_now rows counts asking)) }
     ensures { (values : Values) → IsSet values w
-        → StayKept words values (lent_counters rows counts asking).entry (unassigned values w) (lent_counters rows counts asking).exit }
+        → StayKept words values (lent_counts rows counts asking).entry (unassigned values w) (lent_counts rows counts asking).exit }
 {
     let other = values::other_sign(w);
     passes::over_row(rows, counts, asking, other, words, 1, 0);
@@ -54,10 +54,10 @@ pub fn undo_counts(
     n: usize,
 )
     requires { (from ≤ n) × (n ≤ 256) × (words ≤ 10)
-        × ((values : Values) × Undoable values trail.now from n × CountersFit values words (counters_now rows counts asking)) }
+        × ((values : Values) × Undoable values trail.now from n × CountersFit values words (counts_now rows counts asking)) }
     ensures { (values : Values) → Undoable values trail.now from n
-        → StayKept words values (lent_counters rows counts asking).entry
-        (cleared values (take (n - from) (drop from trail.now))) (lent_counters rows counts asking).exit }
+        → StayKept words values (lent_counts rows counts asking).entry
+        (cleared values (take (n - from) (drop from trail.now))) (lent_counts rows counts asking).exit }
 {
     let mut i = from;
     while i < n {

@@ -59,7 +59,7 @@ pub const SLOTS: usize = 4 * CLAUSE_LITERALS;
 pub const FIRST_CONSTANT: usize = 7;
 
 // How much of each array is in use, and how many rules question 9 counts.
-#[derive(Drop)]
+#[derive(Clone, Copy, Drop)]
 pub struct Sizes {
     pub constants: usize,
     pub symbols: usize,

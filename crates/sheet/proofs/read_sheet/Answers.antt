@@ -1,0 +1,53 @@
+-- `sheet::read_sheet` meets its contract: the sheet from the next line on, read behind the lines so far, comes to what all of it comes to. Assumes nothing.
+use Prim.Native.Nat.{◌-◌}
+use native.Mathlib.Omega.{arith}
+use lib.ListN.{length}
+use Rattle.encoding.specs.Encoding.{Arrays, arrays}
+use Rattle.rows.specs.Rows.{start_count}
+use Rattle.sheet.proofs.Sheets.{read-long, read-empty, line-inside, ReadUpTo, reached-start, reached-end, Starts, reached-ready, start-stop, line-stop, reached-next}
+use borrow.Author.Rules.{rules}
+use Rattle.sheet.proofs.read_sheet.Goals as goal
+
+pub returns-then-sheet-gt-SHEET_BYTES : goal.returns-then-sheet-gt-SHEET_BYTES
+returns-then-sheet-gt-SHEET_BYTES c = rw (read-long _ c.if-sheet-gt-SHEET_BYTES.true)
+
+pub returns-then-sheet-eq0 : goal.returns-then-sheet-eq0
+returns-then-sheet-eq0 c = rw (read-empty _ c.if-sheet-gt-SHEET_BYTES.false c.if-sheet-eq0.true)
+
+pub loop-from-init : goal.loop-from-init
+loop-from-init c =
+    reached-start c.args.starts.now c.if-sheet-gt-SHEET_BYTES.false c.if-sheet-eq0.false c.requires c.told-arities
+
+pub read_line-requires : goal.read_line-requires
+read_line-requires c = line-inside _ _ _ c.loop-from-test.true c.line_end-end.ensures
+
+pub returns-in-No : goal.returns-in-No
+returns-in-No c =
+    rw (start-stop c.loop-from.invariant (record { more = c.loop-from-test.true; ends = c.line_end-end.ensures; asked = c.read_line.ensures.reads }) c.in-No.is)
+
+pub line_of_kind-requires : goal.line_of_kind-requires
+unfolding start_count
+line_of_kind-requires c =
+    (rw c.in-Kind.is at c.read_line.ensures.fits, reached-ready c.loop-from.invariant)
+
+pub returns-in-No-line_of_kind : goal.returns-in-No-line_of_kind
+returns-in-No-line_of_kind c =
+    rw (line-stop c.loop-from.invariant (record { more = c.loop-from-test.true; ends = c.line_end-end.ensures; asked = c.read_line.ensures.reads }) c.in-Kind.is _ (let a = c.line_of_kind.new.arities in
+    arrays a.0 a.1.0 a.1.1.0 a.1.1.1.0 a.1.1.1.1.0 a.1.1.1.1.1.0) c.line_of_kind.ensures c.in-No-line_of_kind.is)
+
+pub overflow_add-from : goal.overflow_add-from
+overflow_add-from c = let line = (record { more = c.loop-from-test.true; ends = c.line_end-end.ensures; asked = c.read_line.ensures.reads }) in omega (arith, c.loop-from.invariant.short, line-inside _ _ _ line.more line.ends)
+
+pub overflow_add-line : goal.overflow_add-line
+overflow_add-line c = let inv = c.loop-from.invariant in omega (arith, inv.short, inv.counted, (record { more = c.loop-from-test.true; ends = c.line_end-end.ensures; asked = c.read_line.ensures.reads }).more)
+
+pub loop-from-smaller : goal.loop-from-smaller
+loop-from-smaller c = let line = (record { more = c.loop-from-test.true; ends = c.line_end-end.ensures; asked = c.read_line.ensures.reads }) in omega (arith, line.more, line-inside _ _ _ line.more line.ends)
+
+pub loop-from-preserved : goal.loop-from-preserved
+loop-from-preserved c =
+    reached-next c.loop-from.invariant (record { more = c.loop-from-test.true; ends = c.line_end-end.ensures; asked = c.read_line.ensures.reads }) c.in-Kind.is _ (let a = c.line_of_kind.new.arities in
+    arrays a.0 a.1.0 a.1.1.0 a.1.1.1.0 a.1.1.1.1.0 a.1.1.1.1.1.0) c.line_of_kind.ensures c.in-Yes.is
+
+pub returns : goal.returns
+returns c = reached-end _ c.loop-from.invariant c.loop-from-test.false
