@@ -55,7 +55,7 @@ DONE = "\x01"
 
 
 def norm(name):
-    return name.replace("_", "-")
+    return name.replace("_", "-").lower()
 
 
 def names_of(crate):

@@ -10,7 +10,7 @@ pub struct Refusal {
 }
 
 // The four answers of the search.
-#[derive(Drop)]
+#[derive(Clone, Copy, Drop)]
 pub enum Verdict {
     Unsat,
     Unknown,

@@ -3,7 +3,7 @@
 use definitions::Verdict;
 
 // How much of the arrays is in use, and both counts. There may be one conflict more than a 32-bit number holds.
-#[derive(Drop)]
+#[derive(Clone, Copy, Drop)]
 pub struct Run {
     pub atoms: usize,
     pub clauses: usize,
@@ -20,7 +20,7 @@ pub enum Next {
 }
 
 // What the search comes to.
-#[derive(Drop)]
+#[derive(Clone, Copy, Drop)]
 pub struct Ended {
     pub verdict: Verdict,
     pub run: Run,

@@ -23,7 +23,10 @@ read_line-requires c = line-inside _ _ _ c.loop-from-test.true c.line_end-end.en
 
 pub returns-in-No : goal.returns-in-No
 returns-in-No c =
-    rw (start-stop c.loop-from.invariant (record { more = c.loop-from-test.true; ends = c.line_end-end.ensures; asked = c.read_line.ensures.reads }) c.in-No.is)
+    let line : Starts c.args.sheet.now c.loop-from.before c.loop-from.from c.line_end-end.result c.read_line.result c.read_line.new.row =
+        record { more = c.loop-from-test.true; ends = c.line_end-end.ensures; asked = c.read_line.ensures.reads }
+    in
+    rw (start-stop c.loop-from.invariant line c.in-No.is)
 
 pub line_of_kind-requires : goal.line_of_kind-requires
 unfolding start_count
@@ -32,22 +35,40 @@ line_of_kind-requires c =
 
 pub returns-in-No-line_of_kind : goal.returns-in-No-line_of_kind
 returns-in-No-line_of_kind c =
-    rw (line-stop c.loop-from.invariant (record { more = c.loop-from-test.true; ends = c.line_end-end.ensures; asked = c.read_line.ensures.reads }) c.in-Kind.is _ (let a = c.line_of_kind.new.arities in
-    arrays a.0 a.1.0 a.1.1.0 a.1.1.1.0 a.1.1.1.1.0 a.1.1.1.1.1.0) c.line_of_kind.ensures c.in-No-line_of_kind.is)
+    let line : Starts c.args.sheet.now c.loop-from.before c.loop-from.from c.line_end-end.result c.read_line.result c.read_line.new.row =
+        record { more = c.loop-from-test.true; ends = c.line_end-end.ensures; asked = c.read_line.ensures.reads }
+    in
+    let after = c.line_of_kind.new in
+    rw (line-stop c.loop-from.invariant line c.in-Kind.is _ (arrays after.arities after.rules after.starts after.literals after.table after.index) c.line_of_kind.ensures c.in-No-line_of_kind.is)
 
 pub overflow_add-from : goal.overflow_add-from
-overflow_add-from c = let line = (record { more = c.loop-from-test.true; ends = c.line_end-end.ensures; asked = c.read_line.ensures.reads }) in omega (arith, c.loop-from.invariant.short, line-inside _ _ _ line.more line.ends)
+overflow_add-from c =
+    let line : Starts c.args.sheet.now c.loop-from.before c.loop-from.from c.line_end-end.result c.read_line.result c.read_line.new.row =
+        record { more = c.loop-from-test.true; ends = c.line_end-end.ensures; asked = c.read_line.ensures.reads }
+    in
+    omega (arith, c.loop-from.invariant.short, line-inside _ _ _ line.more line.ends)
 
 pub overflow_add-line : goal.overflow_add-line
-overflow_add-line c = let inv = c.loop-from.invariant in omega (arith, inv.short, inv.counted, (record { more = c.loop-from-test.true; ends = c.line_end-end.ensures; asked = c.read_line.ensures.reads }).more)
+overflow_add-line c =
+    let line : Starts c.args.sheet.now c.loop-from.before c.loop-from.from c.line_end-end.result c.read_line.result c.read_line.new.row =
+        record { more = c.loop-from-test.true; ends = c.line_end-end.ensures; asked = c.read_line.ensures.reads }
+    in
+    let inv = c.loop-from.invariant in omega (arith, inv.short, inv.counted, line.more)
 
 pub loop-from-smaller : goal.loop-from-smaller
-loop-from-smaller c = let line = (record { more = c.loop-from-test.true; ends = c.line_end-end.ensures; asked = c.read_line.ensures.reads }) in omega (arith, line.more, line-inside _ _ _ line.more line.ends)
+loop-from-smaller c =
+    let line : Starts c.args.sheet.now c.loop-from.before c.loop-from.from c.line_end-end.result c.read_line.result c.read_line.new.row =
+        record { more = c.loop-from-test.true; ends = c.line_end-end.ensures; asked = c.read_line.ensures.reads }
+    in
+    omega (arith, line.more, line-inside _ _ _ line.more line.ends)
 
 pub loop-from-preserved : goal.loop-from-preserved
 loop-from-preserved c =
-    reached-next c.loop-from.invariant (record { more = c.loop-from-test.true; ends = c.line_end-end.ensures; asked = c.read_line.ensures.reads }) c.in-Kind.is _ (let a = c.line_of_kind.new.arities in
-    arrays a.0 a.1.0 a.1.1.0 a.1.1.1.0 a.1.1.1.1.0 a.1.1.1.1.1.0) c.line_of_kind.ensures c.in-Yes.is
+    let line : Starts c.args.sheet.now c.loop-from.before c.loop-from.from c.line_end-end.result c.read_line.result c.read_line.new.row =
+        record { more = c.loop-from-test.true; ends = c.line_end-end.ensures; asked = c.read_line.ensures.reads }
+    in
+    let after = c.line_of_kind.new in
+    reached-next c.loop-from.invariant line c.in-Kind.is _ (arrays after.arities after.rules after.starts after.literals after.table after.index) c.line_of_kind.ensures c.in-Yes.is
 
 pub returns : goal.returns
 returns c = reached-end _ c.loop-from.invariant c.loop-from-test.false
