@@ -183,6 +183,8 @@ def finished(text, f):
     # a clause that has a name is cited by it
     for new, names in f.clauses.items():
         text = re.sub(r"(?<![\w'.-])(\w+)\." + re.escape(new) + r"\.ensures\.([0-9])(?![0-9])", lambda m: f"{m[1]}.{new}.ensures.{names[int(m[2])]}" if int(m[2]) < len(names) else m[0], text)
+        for m in re.findall(r"let ([\w-]+) = c\." + re.escape(new) + r" in", text):
+            text = re.sub(r"(?<![\w'.-])" + re.escape(m) + r"\.ensures\.([0-9])(?![0-9])", lambda k, m=m, names=names: f"{m}.ensures.{names[int(k[1])]}" if int(k[1]) < len(names) else k[0], text)
     if len(f.requires) > 1:
         text = re.sub(r"(?<![\w'.-])c\.requires\.([0-9])(?![0-9])", lambda m: f"c.requires.{f.requires[int(m[1])]}" if int(m[1]) < len(f.requires) else m[0], text)
     return text
@@ -202,7 +204,7 @@ def expanded(text, given):
             while len(args) < len(params) and i < len(whole) and whole[i] == " ":
                 i += 1
                 start, depth = i, 0
-                while i < len(whole) and (depth or whole[i] not in " \n),;]"):
+                while i < len(whole) and (depth or whole[i] not in " \n),;]}"):
                     depth += whole[i] in "([{"
                     depth -= whole[i] in ")]}"
                     i += 1

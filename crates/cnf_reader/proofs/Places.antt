@@ -10,7 +10,7 @@ use lib.Seq.{drop-cons}
 use borrow.Author.Tests.{eq-eqb, ne_eqb}
 use Rattle.definitions.specs.Questions.{Asked, yes, ◌>>=◌, ◌>>◌, ask}
 use Rattle.definitions.specs.Sheet.{is_digit}
-use Rattle.definitions.specs.Dimacs.{front, expect, expects, more_digits, decimal_at, starts_with}
+use Rattle.definitions.specs.Dimacs.{Front, front, expect, expects, more_digits, decimal_at, starts_with}
 use Rattle.theory.specs.Tests.{by-test}
 use Rattle.theory.specs.CnfText.{digit_low, digit-high, digit-among}
 use Rattle.cnf_reader.specs.Parts.{place_of, decimal_of}
@@ -98,7 +98,17 @@ module _ (text : List ℕ) (at size : ℕ) where
 two_digits : (n : ℕ) (bs : List ℕ) → more_digits 2 n bs ≡ more_digits 1 (more_digits 1 n bs).found (more_digits 1 n bs).behind
 unfolding more_digits
 two_digits n [] = refl
-two_digits n (b ∷ bs) = by-test (is_digit b) (λ e. cc) (λ e. cc)
+two_digits n (b ∷ bs) =
+    let again : Front ℕ → Front ℕ = λ f. more_digits 1 f.found f.behind in
+    by-test (is_digit b)
+    (λ e.
+    let one : more_digits 1 n (b ∷ bs) ≡ front (n * 10 + (b - 48)) bs = rw (e, more_digits) in
+    let two : more_digits 2 n (b ∷ bs) ≡ more_digits 1 (n * 10 + (b - 48)) bs = rw (e, more_digits) in
+    two ∙ sym (ap again one))
+    (λ e.
+    let one : more_digits 1 n (b ∷ bs) ≡ front n (b ∷ bs) = rw (e, more_digits) in
+    let two : more_digits 2 n (b ∷ bs) ≡ front n (b ∷ bs) = rw (e, more_digits) in
+    two ∙ sym (ap again one ∙ one))
 
 module _ (text : List ℕ) (at q : ℕ) where
   pub decimal-end : length text ≤ at → decimal_of q text NoDecimal ≡ decimal_at q (drop at text)

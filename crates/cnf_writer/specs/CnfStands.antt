@@ -14,7 +14,7 @@ use Rattle.definitions.specs.Dimacs.{table_number, cnf_of, literal_text, clause_
 use Rattle.theory.specs.ListLaws.{joined-append}
 use Rattle.theory.specs.PlaceLaws.{up_from-append}
 use Rattle.encoding.specs.Encoding.{literal_word, clause_words}
-use Rattle.encoding.specs.Signs.{number_of, number_word}
+use Rattle.encoding.specs.Signs.{number_of, number_word_lem}
 use Rattle.encoding.specs.Values.{Values}
 use Rattle.units.specs.Units.{clause_at}
 use Rattle.machine.specs.Finished.{Finished}

@@ -6,7 +6,7 @@ use Rattle.bits.specs.Bits.{has, packed, among}
 use Rattle.definitions.specs.Lists.{any, filter, distinct, up_from}
 use Rattle.definitions.specs.ClauseNumbers.{Numbers}
 use Rattle.std.proofs.Common.{Bor}
-use Rattle.encoding.specs.Lent.{Array, Lent}
+use Rattle.encoding.specs.Lent.{Array, Lent, Shared}
 use Rattle.encoding.specs.Values.{Values, true_word}
 use Rattle.units.specs.Units.{not_false_words}
 
@@ -79,5 +79,5 @@ lent_counters rows counts asking = record { entry = counters_now rows.entry coun
 abbrev pub counts_now : Bor (List ℕ) → Array → Array → Counters
 counts_now rows counts asking = counters rows.now counts.now asking.now
 
-abbrev pub lent_counts : Both (Bor (List ℕ)) (Bor (List ℕ)) → Lent → Lent → Both Counters Counters
+abbrev pub lent_counts : Shared → Lent → Lent → Both Counters Counters
 lent_counts rows counts asking = record { entry = counts_now rows.entry counts.entry asking.entry; exit = counts_now rows.exit counts.exit asking.exit }

@@ -1,7 +1,7 @@
 -- Arrays that are lent to a function: what they hold when it is called and when it is done. The arrays of a search are records in the
 -- grain in which functions change them. Assumes nothing.
 use Rattle.std.specs.Prelude.{ℕ, ◌≡◌, List}
-use Rattle.std.proofs.Common.{MutBor}
+use Rattle.std.proofs.Common.{Bor, MutBor}
 use denote.Triple.Both.{Both}
 use Rattle.encoding.specs.Encoding.{Arrays, arrays}
 use Rattle.encoding.specs.Values.{Values}
@@ -12,6 +12,10 @@ Array = MutBor (List ℕ)
 
 abbrev pub Lent : Type 0
 Lent = Both Array Array
+
+-- one that is lent to be read
+abbrev pub Shared : Type 0
+Shared = Both (Bor (List ℕ)) (Bor (List ℕ))
 
 -- the states of atoms likewise
 abbrev pub ValueArray : Type 0
