@@ -1,4 +1,4 @@
-/* The solver's calls for C and C++. Link target/staticlib/libinterface.a, which `rt staticlib interface` proves and writes.
+/* The solver's calls for C and C++. Link crates/interface/out/libinterface.a, which `rt lib` in crates/interface proves and writes.
    Nothing is required of the bytes, the budget or the lengths. What a caller owes, and no proof sees:
    - a pointer is to as many elements as the length behind it says; they hold values, and nothing else writes them during the call. With
      length 0 any pointer will do, a null pointer too;

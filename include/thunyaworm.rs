@@ -1,4 +1,4 @@
-// The solver's calls for Rust, from 1.82 on and in any edition: `include!` this file, and link with `-L native=target/staticlib
+// The solver's calls for Rust, from 1.82 on and in any edition: `include!` this file, and link with `-L native=crates/interface/out
 // -l static=interface`. What they do, and what a caller owes, stands in thunyaworm.h.
 
 // A buffer for a sheet: with one byte more than a sheet may have, a longer one shows.

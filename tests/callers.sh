@@ -5,10 +5,10 @@
 # The last line is "callers: N passed, M failed"; exit status 1 if one failed.
 set -u
 cd "$(dirname "$0")/.." || exit 1
-library=target/staticlib/libinterface.a
+library=crates/interface/out/libinterface.a
 work=target/callers
 mkdir -p "$work"
-[ -f "$library" ] || rt staticlib interface
+[ -f "$library" ] || (cd crates/interface && rt lib) || exit 1
 passed=0
 failed=0
 
@@ -44,7 +44,7 @@ caller() {
 caller c cc -std=c99 -pedantic -Wall -Wextra -Werror -I include examples/callers/caller.c "$library"
 caller c++ c++ -std=c++11 -pedantic -Wall -Wextra -Werror -I include examples/callers/caller.cpp "$library"
 for edition in 2021 2024; do
-    caller rust-$edition rustc --edition $edition -D warnings examples/callers/caller.rs -L native=target/staticlib -l static=interface
+    caller rust-$edition rustc --edition $edition -D warnings examples/callers/caller.rs -L native=crates/interface/out -l static=interface
 done
 echo "callers: $passed passed, $failed failed"
 [ "$failed" -eq 0 ] && [ "$passed" -gt 0 ]

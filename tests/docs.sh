@@ -12,17 +12,18 @@
 #
 # Without a page's name it also holds docs/WRONG_ANSWERS.md to the files: each must-fail edit stands in its first column once.
 #
-# Skipped, and said: rt and .ci/run, which take long and print times, and what needs one of the programs below that isn't installed.
+# Skipped, and said: what runs rt or .ci/run, which take long and print what they prove, and what needs one of the programs below that
+# isn't installed.
 # The last line is "docs: K skipped, N passed, M failed"; exit status 1 if one failed.
 set -u
 export LC_ALL=C
 cd "$(dirname "$0")/.." || exit 1
 optional="cc c++ rustc minisat valgrind"
-if [ ! -x target/bin/thunyaworm ]; then
-    echo "docs: no program at target/bin/thunyaworm" >&2
+if [ ! -x crates/thunyaworm/out/thunyaworm ]; then
+    echo "docs: no program at crates/thunyaworm/out/thunyaworm" >&2
     exit 1
 fi
-[ -f target/staticlib/libinterface.a ] || rt staticlib interface
+[ -f crates/interface/out/libinterface.a ] || (cd crates/interface && rt lib) || exit 1
 pages=("$@")
 [ $# -gt 0 ] || pages=(README.md docs/*.md docs/changes/*.md examples/README.md tests/README.md)
 work=$(mktemp -d)
@@ -49,7 +50,7 @@ fail() {
 why_not() {
     local name words=" ${1//brute\/run/rustc} "
     case $words in
-        " rt "* | " .ci/run"*) echo "it takes long" ;;
+        *" rt "* | " .ci/run"*) echo "it takes long" ;;
     esac
     for name in $optional; do
         [[ $words != *" $name "* ]] || command -v "$name" > /dev/null || echo "$name isn't installed"

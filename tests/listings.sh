@@ -1,12 +1,12 @@
 #!/usr/bin/env bash
-# tests/listings.sh [PROGRAM]: runs a program (default target/bin/thunyaworm) on every sheet of tests/vectors/* and examples and
-# compares what it prints with the listing beside the sheet, byte for byte. The same with the sheets of tests/vectors/*/export, by
+# tests/listings.sh [PROGRAM]: runs a program (default crates/thunyaworm/out/thunyaworm) on every sheet of tests/vectors/* and examples
+# and compares what it prints with the listing beside the sheet, byte for byte. The same with the sheets of tests/vectors/*/export, by
 # `PROGRAM budget N` with the budget beside the sheet; there `PROGRAM budget N cnf` has to print the text beside the sheet, or, where that
 # is empty, the refusal. Where the budget is the one that is used without that word, the same without it.
 # The last line is "listings: N passed, M failed"; exit status 1 if one failed.
 set -u
 here=$(cd "$(dirname "$0")" && pwd)
-program=${1:-$here/../target/bin/thunyaworm}
+program=${1:-$here/../crates/thunyaworm/out/thunyaworm}
 if [ ! -x "$program" ]; then
     echo "listings: no program at $program" >&2
     exit 1

@@ -1,11 +1,11 @@
 #!/usr/bin/env bash
-# tests/program.sh [PROGRAM]: runs a program (default target/bin/thunyaworm) as people meet it: with every kind of words, at the ends of
-# what it holds of a sheet, on sheets that come in pieces, at budgets up to the largest, and where reading or writing fails. What it
-# prints, and what it says on standard error, is compared byte for byte.
+# tests/program.sh [PROGRAM]: runs a program (default crates/thunyaworm/out/thunyaworm) as people meet it: with every kind of words, at
+# the ends of what it holds of a sheet, on sheets that come in pieces, at budgets up to the largest, and where reading or writing fails.
+# What it prints, and what it says on standard error, is compared byte for byte.
 # The last line is "program: N passed, M failed"; exit status 1 if one failed.
 set -u
 here=$(cd "$(dirname "$0")" && pwd)
-program=${1:-$here/../target/bin/thunyaworm}
+program=${1:-$here/../crates/thunyaworm/out/thunyaworm}
 if [ ! -x "$program" ]; then
     echo "program: no program at $program" >&2
     exit 1

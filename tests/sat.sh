@@ -1,15 +1,15 @@
 #!/usr/bin/env bash
-# tests/sat.sh [PROGRAM [SOLVER]]: gives an ordinary SAT program what `PROGRAM cnf` (default target/bin/thunyaworm) prints for every
-# accepted sheet of tests/vectors and examples, the texts stored for other budgets, and those of random sheets, 300 of them UNSAT, as
-# `brute/run --texts` writes them from the library. It has to read each text, and where the listing says UNSAT it has to say so too. The
-# SAT program is SOLVER or the first of those below that is installed; without any the script says so, counts nothing and ends with
+# tests/sat.sh [PROGRAM [SOLVER]]: gives an ordinary SAT program what `PROGRAM cnf` (default crates/thunyaworm/out/thunyaworm) prints for
+# every accepted sheet of tests/vectors and examples, the texts stored for other budgets, and those of random sheets, 300 of them UNSAT,
+# as `brute/run --texts` writes them from the library. It has to read each text, and where the listing says UNSAT it has to say so too.
+# The SAT program is SOLVER or the first of those below that is installed; without any the script says so, counts nothing and ends with
 # status 0.
 # The last line ends with "N passed, M failed"; exit status 1 if one failed.
 set -u
 # Those that hold a text to the counts in its first line come first.
 solvers="cadical picosat kissat lingeling plingeling cryptominisat5 glucose minisat clasp"
 here=$(cd "$(dirname "$0")" && pwd)
-program=${1:-$here/../target/bin/thunyaworm}
+program=${1:-$here/../crates/thunyaworm/out/thunyaworm}
 solver=${2:-}
 if [ -z "$solver" ]; then
     for name in $solvers; do
