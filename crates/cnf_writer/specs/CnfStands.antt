@@ -29,7 +29,7 @@ module _ (table : List Atom) where
   unfolding word_text literal_word table_number number_of
   word_stands l =
       let at = position table l.atom in
-      let number = number_word (not l.positive) at in
+      let number = number_word_lem (not l.positive) at in
       rw (ap (λ (n : Number). n.negative) number, ap (λ (n : Number). n.size) number, add-one at)
 
   words-stand : (c : Clause) → joined word_text (clause_words table c) ≡ joined literal_text (map (table_number table) c)
