@@ -3,12 +3,16 @@
 // are told on standard error.
 #![tactic(auto)]
 
-ghost use Rattle.std.specs.Prelude.{◌≤◌, length};
+ghost use Rattle.std.specs.Prelude.{◌≤◌, ◌<◌, length, take, IfOk, IfErr, OnOk};
 ghost use Rattle.std.specs.Io.{ReadsAtMost};
+ghost use Rattle.std.specs.Io.KnownBytes.{Consumes, IsAtEnd};
+ghost use Rattle.definitions.specs.Call.{printed};
+ghost use Rattle.definitions.specs.Export.{printed_cnf};
+ghost use Rattle.thunyaworm.specs.Outputs.{Outputs, KeepsUnread};
 
 use definitions::Order;
 use std::env::{Env, FillError};
-use std::io::{Input, Read, Write};
+use std::io::{Read, Write};
 use std::{fmt, io};
 
 // A buffer for a word: with more bytes than any word that is taken, a longer one shows.
@@ -17,20 +21,24 @@ const WORD_BUFFER: usize = 16;
 // A buffer for what the system says of an error, with room for its longest text and the number behind it.
 const REASON_BUFFER: usize = 128;
 
-// Reads until the input ends or the buffer is full. A sheet that is too long is refused, so one byte more than a sheet may have is all
-// that has to be held of it.
-fn read_sheet<R: Read>(input: &mut R, sheet: &mut [u8]) -> io::Result<usize>
-    ensures { ReadsAtMost result sheet.new }
-{
-    let mut count: usize = 0;
-    while count < sheet.len() {
-        let more = input.read(&mut sheet[count..])?;
-        if more == 0 {
-            break;
+// Why a sheet was not printed.
+#[derive(Drop)]
+enum Failure {
+    Unread(io::Error),
+    Unwritten(io::Error),
+}
+
+impl fmt::Display for Failure {
+    fn fmt<W: fmt::Write>(&self, f: &mut fmt::Formatter<W>) -> fmt::Result {
+        match self {
+            Failure::Unread(why) => write!(f, "the sheet could not be read: {}", Reason(why)),
+            Failure::Unwritten(why) => write!(
+                f,
+                "the output could not be written: {}",
+                Reason(why)
+            ),
         }
-        count += more;
     }
-    Ok(count)
 }
 
 // An error in the system's own words, without the number that an `io::Error` prints behind them.
@@ -48,46 +56,52 @@ impl fmt::Display for Reason<'_> {
     }
 }
 
-// A line on standard error: what failed, and why. Where that fails too, nothing is left to tell it by.
-fn fail(rt: &impl Eprint, what: &str, why: &io::Error) {
-    let reason = Reason(why);
-    let _ = eprintln!(rt; "{what}: {reason}");
-}
-
-fn fail_to_read(rt: &impl Eprint, why: &io::Error) {
-    fail(rt, "thunyaworm: the sheet could not be read", why);
-}
-
-fn write_out(rt: &(impl Print + Eprint), bytes: &[u8]) {
-    if let Err(why) = Print::write_all(rt, bytes) {
-        fail(rt, "thunyaworm: the output could not be written", &why);
+// Reads until the input ends or the buffer is full. A sheet that is too long is refused, so one byte more than a sheet may have is all
+// that has to be held of it.
+fn read_sheet<R: Read>(input: &mut R, sheet: &mut [u8]) -> io::Result<usize>
+    ensures within { ReadsAtMost result sheet.new }
+    ensures front { IfOk result (λ n. Consumes (R.remaining input.old) (R.remaining input.new) (take n sheet.new)) }
+    ensures whole { IfOk result (λ n. n < length sheet.new → IsAtEnd (R.remaining input.new)) }
+{
+    let mut count: usize = 0;
+    while count < sheet.len() {
+        let more = input.read(&mut sheet[count..])?;
+        if more == 0 {
+            return Ok(count);
+        }
+        count += more;
     }
+    Ok(count)
 }
 
 // Document 01's program.
-fn print_listing(rt: &(impl Input + Print + Eprint), budget: u32) {
+fn print_listing<R: Read, W: Write>(
+    input: &mut R,
+    output: &mut W,
+    budget: u32,
+) -> Result<(), Failure>
+    ensures printed { OnOk result (Outputs (λ sheet. printed sheet budget) (R.remaining input.old)
+        (W.contents output.old) (W.contents output.new)) }
+    ensures unread { IfErr result (KeepsUnread (W.contents output.old) (W.contents output.new)) }
+{
     let mut sheet = [0u8; solver::SHEET_BUFFER];
     let mut room = [0u8; solver::ROOM];
-    match read_sheet(&mut rt.reader(), &mut sheet) {
-        Ok(count) => {
-            let size = solver::print(&sheet[..count], budget, &mut room);
-            write_out(rt, &room[..size]);
-        }
-        Err(why) => fail_to_read(rt, &why),
-    }
+    let count = read_sheet(input, &mut sheet).map_err(Failure::Unread)?;
+    let size = solver::print(&sheet[..count], budget, &mut room);
+    output.write_all(&room[..size]).map_err(Failure::Unwritten)
 }
 
 // The clauses.
-fn print_cnf(rt: &(impl Input + Print + Eprint), budget: u32) {
+fn print_cnf<R: Read, W: Write>(input: &mut R, output: &mut W, budget: u32) -> Result<(), Failure>
+    ensures printed { OnOk result (Outputs (λ sheet. printed_cnf sheet budget) (R.remaining input.old)
+        (W.contents output.old) (W.contents output.new)) }
+    ensures unread { IfErr result (KeepsUnread (W.contents output.old) (W.contents output.new)) }
+{
     let mut sheet = [0u8; solver::SHEET_BUFFER];
     let mut cnf = [0u8; solver::EXPORT_ROOM];
-    match read_sheet(&mut rt.reader(), &mut sheet) {
-        Ok(count) => {
-            let size = solver::print_cnf(&sheet[..count], budget, &mut cnf);
-            write_out(rt, &cnf[..size]);
-        }
-        Err(why) => fail_to_read(rt, &why),
-    }
+    let count = read_sheet(input, &mut sheet).map_err(Failure::Unread)?;
+    let size = solver::print_cnf(&sheet[..count], budget, &mut cnf);
+    output.write_all(&cnf[..size]).map_err(Failure::Unwritten)
 }
 
 // A word behind the command's name. One that doesn't fit is as long as the buffer, and so none of the command's.
@@ -130,12 +144,17 @@ fn order(rt: &impl Env) -> Order {
     )
 }
 
+// What the words order is printed; what failed is told, as far as standard error takes it.
 fn main(rt: HostRuntime) {
-    match order(&rt) {
-        Order::Listing(budget) => print_listing(&rt, budget),
-        Order::Cnf(budget) => print_cnf(&rt, budget),
+    let printed = match order(&rt) {
+        Order::Listing(budget) => print_listing(&mut rt.stdin(), &mut rt.stdout(), budget),
+        Order::Cnf(budget) => print_cnf(&mut rt.stdin(), &mut rt.stdout(), budget),
         Order::Usage => {
             let _ = rt.eprintln("usage: thunyaworm [budget N] [cnf] < SHEET");
+            Ok(())
         }
+    };
+    if let Err(failure) = printed {
+        let _ = eprintln!(rt; "thunyaworm: {failure}");
     }
 }
