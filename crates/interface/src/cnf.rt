@@ -15,6 +15,7 @@ pub const CNF_PLACES: usize = 3;
 
 // The export call: how many bytes at the front of the export room hold the text, 0 for a refusal. The places hold what the first call
 // puts there. With fewer than five places nothing is done, and 0 is handed back.
+#[tactic(auto, unfolding(crate::specs::Handed::lent_or, crate::specs::Handed::five_places))]
 #[unsafe(no_mangle)]
 pub extern "C" fn thunyaworm_export(
     sheet: &[u8],
@@ -23,10 +24,10 @@ pub extern "C" fn thunyaworm_export(
     cnf: &mut [u8],
     places: &mut [u64],
 ) -> usize
-    ensures { (result ≡ length (lent_or (five_places places.old) (export_text sheet.now budget room.old cnf.old) []))
-        × (places.new ≡ sets places.old 0 (lent_or (five_places places.old) (values_of (export_call sheet.now budget room.old cnf.old)) []))
-        × (room.new ≡ lent_or (five_places places.old) (room_after_export sheet.now budget room.old cnf.old) room.old)
-        × (cnf.new ≡ lent_or (five_places places.old) (export_after sheet.now budget room.old cnf.old) cnf.old) }
+    ensures count { result ≡ length (lent_or (five_places places.old) (export_text sheet.now budget room.old cnf.old) []) }
+    ensures places { places.new ≡ sets places.old 0 (lent_or (five_places places.old) (values_of (export_call sheet.now budget room.old cnf.old)) []) }
+    ensures room { room.new ≡ lent_or (five_places places.old) (room_after_export sheet.now budget room.old cnf.old) room.old }
+    ensures cnf { cnf.new ≡ lent_or (five_places places.old) (export_after sheet.now budget room.old cnf.old) cnf.old }
 {
     if places.len() < PLACES {
         return 0;
@@ -42,20 +43,21 @@ fn put_words(to: &mut [u16], words: &[u16])
     requires { length words.now ≤ length to.old }
     ensures { to.new ≡ sets to.old 0 words.now }
 {
-    let mut i: usize = 0;
-    while i < words.len() {
-        to[i] = words[i];
-        i += 1;
-    }
+    to[..words.len()].copy_from_slice(words);
 }
 
 // What was read: the values of the answer at the front of the places, and how many there are; and the arrays, but for a refusal.
+#[tactic(auto, unfolding(cnf_reader::specs::CnfArrays::cnf_values, crate::specs::Handed::unless_refused))]
 fn put_read(read: CnfRead, starts: &mut [u16], literals: &mut [u16], places: &mut [u64]) -> usize
-    requires { (577 ≤ length starts.old) × (4608 ≤ length literals.old) × (3 ≤ length places.old)
-        × (length read.starts ≡ 577) × (length read.literals ≡ 4608) }
-    ensures { (result ≡ length (cnf_values read.answer)) × (places.new ≡ sets places.old 0 (cnf_values read.answer))
-        × (starts.new ≡ sets starts.old 0 (unless_refused read.answer read.starts))
-        × (literals.new ≡ sets literals.old 0 (unless_refused read.answer read.literals)) }
+    requires starts { 577 ≤ length starts.old }
+    requires literals { 4608 ≤ length literals.old }
+    requires places { 3 ≤ length places.old }
+    requires read_starts { length read.starts ≡ 577 }
+    requires read_literals { length read.literals ≡ 4608 }
+    ensures count { result ≡ length (cnf_values read.answer) }
+    ensures places { places.new ≡ sets places.old 0 (cnf_values read.answer) }
+    ensures starts { starts.new ≡ sets starts.old 0 (unless_refused read.answer read.starts) }
+    ensures literals { literals.new ≡ sets literals.old 0 (unless_refused read.answer read.literals) }
 {
     let answer = read.answer;
     match answer {
@@ -78,6 +80,7 @@ fn put_read(read: CnfRead, starts: &mut [u16], literals: &mut [u16], places: &mu
 
 // The reader of DIMACS CNF. For a refusal 21 or 22 is put into the places, and 1 is handed back; otherwise 0, the atoms and the clauses,
 // and 3, and the arrays are filled. With fewer than 577 starts, 4,608 literals or three places nothing is done, and 0 is handed back.
+#[tactic(auto, unfolding(crate::specs::Handed::lent_or, crate::specs::Handed::cnf_lent))]
 #[unsafe(no_mangle)]
 pub extern "C" fn thunyaworm_read_cnf(
     text: &[u8],
@@ -85,12 +88,12 @@ pub extern "C" fn thunyaworm_read_cnf(
     literals: &mut [u16],
     places: &mut [u64],
 ) -> usize
-    ensures { (result ≡ length (lent_or (cnf_lent starts.old literals.old places.old) (cnf_values (cnf_read (read_cnf text.now)).answer) []))
-        × (places.new ≡ sets places.old 0 (lent_or (cnf_lent starts.old literals.old places.old) (cnf_values (cnf_read (read_cnf text.now)).answer) []))
-        × (starts.new ≡ sets starts.old 0 (lent_or (cnf_lent starts.old literals.old places.old)
-        (unless_refused (cnf_read (read_cnf text.now)).answer (cnf_read (read_cnf text.now)).starts) []))
-        × (literals.new ≡ sets literals.old 0 (lent_or (cnf_lent starts.old literals.old places.old)
-        (unless_refused (cnf_read (read_cnf text.now)).answer (cnf_read (read_cnf text.now)).literals) [])) }
+    ensures count { result ≡ length (lent_or (cnf_lent starts.old literals.old places.old) (cnf_values (cnf_read (read_cnf text.now)).answer) []) }
+    ensures places { places.new ≡ sets places.old 0 (lent_or (cnf_lent starts.old literals.old places.old) (cnf_values (cnf_read (read_cnf text.now)).answer) []) }
+    ensures starts { starts.new ≡ sets starts.old 0 (lent_or (cnf_lent starts.old literals.old places.old)
+        (unless_refused (cnf_read (read_cnf text.now)).answer (cnf_read (read_cnf text.now)).starts) []) }
+    ensures literals { literals.new ≡ sets literals.old 0 (lent_or (cnf_lent starts.old literals.old places.old)
+        (unless_refused (cnf_read (read_cnf text.now)).answer (cnf_read (read_cnf text.now)).literals) []) }
 {
     if starts.len() < cnf_reader::STARTS {
         return 0;

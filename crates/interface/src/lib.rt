@@ -1,4 +1,6 @@
 // The calls for programs in C and Rust: numbers, and slices as a pointer and a length.
+#![tactic(auto)]
+
 mod cnf; // cnf.rt: the export call, and the reader of DIMACS CNF
 
 ghost use Rattle.std.specs.Prelude.{◌≤◌, ◌≡◌, [], length};
@@ -12,9 +14,11 @@ use definitions::Answer;
 pub const PLACES: usize = 5;
 
 // The values of an answer at the front of the places: how many there are.
+#[tactic(auto, unfolding(definitions::specs::Call::values))]
 fn put_values(places: &mut [u64], answer: Answer) -> usize
     requires { 5 ≤ length places.old }
-    ensures { (result ≡ length (values_of answer)) × (places.new ≡ sets places.old 0 (values_of answer)) }
+    ensures count { result ≡ length (values_of answer) }
+    ensures places { places.new ≡ sets places.old 0 (values_of answer) }
 {
     match answer {
         Answer::Refused(refusal) => {
@@ -37,6 +41,7 @@ fn put_values(places: &mut [u64], answer: Answer) -> usize
 
 // The first call. For a refusal its number and line are put into the places, and 2 is handed back; otherwise the answer's number, the
 // atoms, logged clauses, decisions and conflicts, and 5. With fewer than five places nothing is done, and 0 is handed back.
+#[tactic(auto, unfolding(crate::specs::Handed::lent_or, crate::specs::Handed::five_places))]
 #[unsafe(no_mangle)]
 pub extern "C" fn thunyaworm_solve(
     sheet: &[u8],
@@ -44,9 +49,9 @@ pub extern "C" fn thunyaworm_solve(
     room: &mut [u8],
     places: &mut [u64],
 ) -> usize
-    ensures { (result ≡ length (lent_or (five_places places.old) (values_of (call sheet.now budget room.old)) []))
-        × (places.new ≡ sets places.old 0 (lent_or (five_places places.old) (values_of (call sheet.now budget room.old)) []))
-        × (room.new ≡ lent_or (five_places places.old) (room_after sheet.now budget room.old) room.old) }
+    ensures count { result ≡ length (lent_or (five_places places.old) (values_of (call sheet.now budget room.old)) []) }
+    ensures places { places.new ≡ sets places.old 0 (lent_or (five_places places.old) (values_of (call sheet.now budget room.old)) []) }
+    ensures room { room.new ≡ lent_or (five_places places.old) (room_after sheet.now budget room.old) room.old }
 {
     if places.len() < PLACES {
         return 0;
@@ -58,8 +63,8 @@ pub extern "C" fn thunyaworm_solve(
 // The second call: how many bytes at the front of the room hold the listing.
 #[unsafe(no_mangle)]
 pub extern "C" fn thunyaworm_listing(sheet: &[u8], budget: u32, room: &mut [u8]) -> usize
-    ensures { (result ≡ length (listed_part sheet.now budget room.old))
-        × (room.new ≡ room_after sheet.now budget room.old) }
+    ensures count { result ≡ length (listed_part sheet.now budget room.old) }
+    ensures room { room.new ≡ room_after sheet.now budget room.old }
 {
     let listed = solver::list(sheet, budget, room);
     listed
@@ -69,8 +74,8 @@ pub extern "C" fn thunyaworm_listing(sheet: &[u8], budget: u32, room: &mut [u8])
 // of fewer than 45,056 bytes nothing is done, and 0 is handed back.
 #[unsafe(no_mangle)]
 pub extern "C" fn thunyaworm_print(sheet: &[u8], budget: u32, room: &mut [u8]) -> usize
-    ensures { (result ≡ length (printed_part sheet.now budget room.old))
-        × (room.new ≡ written (printed_part sheet.now budget room.old) room.old) }
+    ensures count { result ≡ length (printed_part sheet.now budget room.old) }
+    ensures room { room.new ≡ written (printed_part sheet.now budget room.old) room.old }
 {
     let printed = solver::print(sheet, budget, room);
     printed

@@ -1,120 +1,160 @@
 // The command, `thunyaworm [budget N] [cnf]`: reads a sheet on standard input to its end and prints its listing, or with `cnf` the
 // clauses as DIMACS CNF; for a refusal either prints its line. Other words, a sheet that can't be read and output that can't be written
 // are told on standard error.
-ghost use Rattle.io.specs.Counts.{IsPrefixLen};
+#![tactic(auto)]
+
+ghost use Rattle.std.specs.Prelude.{◌≤◌, ◌<◌, length, take, IfOk, IfErr, OnOk};
+ghost use Rattle.std.specs.Io.{ReadsAtMost};
+ghost use Rattle.std.specs.Io.KnownBytes.{Consumes, IsAtEnd};
+ghost use Rattle.definitions.specs.Call.{printed};
+ghost use Rattle.definitions.specs.Export.{printed_cnf};
+ghost use Rattle.thunyaworm.specs.Outputs.{Outputs, KeepsUnread};
 
 use definitions::Order;
-use libc::{STDERR_FILENO, STDIN_FILENO, STDOUT_FILENO};
+use std::env::{Env, FillError};
+use std::io::{Read, Write};
+use std::{fmt, io};
 
 // A buffer for a word: with more bytes than any word that is taken, a longer one shows.
 const WORD_BUFFER: usize = 16;
 
-// How much was read of a sheet, and whether no read failed.
+// A buffer for what the system says of an error, with room for its longest text and the number behind it.
+const REASON_BUFFER: usize = 128;
+
+// Why a sheet was not printed.
 #[derive(Drop)]
-struct SheetRead {
-    count: usize,
-    whole: bool,
+enum Failure {
+    Unread(io::Error),
+    Unwritten(io::Error),
+}
+
+impl fmt::Display for Failure {
+    fn fmt<W: fmt::Write>(&self, f: &mut fmt::Formatter<W>) -> fmt::Result {
+        match self {
+            Failure::Unread(why) => write!(f, "the sheet could not be read: {}", Reason(why)),
+            Failure::Unwritten(why) => write!(
+                f,
+                "the output could not be written: {}",
+                Reason(why)
+            ),
+        }
+    }
+}
+
+// An error in the system's own words, without the number that an `io::Error` prints behind them.
+#[derive(Clone, Copy)]
+struct Reason<'a>(&'a io::Error);
+
+impl fmt::Display for Reason<'_> {
+    fn fmt<W: fmt::Write>(&self, f: &mut fmt::Formatter<W>) -> fmt::Result {
+        let mut text = [0u8; REASON_BUFFER];
+        let mut rest = &mut text[..];
+        let _ = write!(rest, "{}", self.0);
+        let length = REASON_BUFFER.saturating_sub(rest.len());
+        let told = str::from_utf8(&text[..length]).unwrap_or("");
+        f.write_str(told.split(" (os error ").next().unwrap_or(told))
+    }
 }
 
 // Reads until the input ends or the buffer is full. A sheet that is too long is refused, so one byte more than a sheet may have is all
 // that has to be held of it.
-fn read_sheet(sheet: &mut [u8]) -> SheetRead
-    ensures { IsPrefixLen result.count sheet.new }
+fn read_sheet<R: Read>(input: &mut R, sheet: &mut [u8]) -> io::Result<usize>
+    ensures within { ReadsAtMost result sheet.new }
+    ensures front { IfOk result (λ n. Consumes (R.remaining input.old) (R.remaining input.new) (take n sheet.new)) }
+    ensures whole { IfOk result (λ n. n < length sheet.new → IsAtEnd (R.remaining input.new)) }
 {
     let mut count: usize = 0;
     while count < sheet.len() {
-        let got = libc::read(STDIN_FILENO, &mut sheet[count..]);
-        if got < 0 {
-            os::fail(b"thunyaworm: the sheet could not be read");
-            return SheetRead {
-                count,
-                whole: false,
-            };
-        }
-        let more = io::count(got, &sheet[count..]);
+        let more = input.read(&mut sheet[count..])?;
         if more == 0 {
-            break;
+            return Ok(count);
         }
         count += more;
     }
-    SheetRead { count, whole: true }
-}
-
-fn write_out(bytes: &[u8]) {
-    if !io::write_all(STDOUT_FILENO, bytes) {
-        os::fail(b"thunyaworm: the output could not be written");
-    }
+    Ok(count)
 }
 
 // Document 01's program.
-fn print_listing(budget: u32) {
+fn print_listing<R: Read, W: Write>(
+    input: &mut R,
+    output: &mut W,
+    budget: u32,
+) -> Result<(), Failure>
+    ensures printed { OnOk result (Outputs (λ sheet. printed sheet budget) (R.remaining input.old)
+        (W.contents output.old) (W.contents output.new)) }
+    ensures unread { IfErr result (KeepsUnread (W.contents output.old) (W.contents output.new)) }
+{
     let mut sheet = [0u8; solver::SHEET_BUFFER];
     let mut room = [0u8; solver::ROOM];
-    let read = read_sheet(&mut sheet);
-    if read.whole {
-        let count = read.count;
-        let size = solver::print(&sheet[..count], budget, &mut room);
-        write_out(&room[..size]);
-    }
+    let count = read_sheet(input, &mut sheet).map_err(Failure::Unread)?;
+    let size = solver::print(&sheet[..count], budget, &mut room);
+    output.write_all(&room[..size]).map_err(Failure::Unwritten)
 }
 
 // The clauses.
-fn print_cnf(budget: u32) {
+fn print_cnf<R: Read, W: Write>(input: &mut R, output: &mut W, budget: u32) -> Result<(), Failure>
+    ensures printed { OnOk result (Outputs (λ sheet. printed_cnf sheet budget) (R.remaining input.old)
+        (W.contents output.old) (W.contents output.new)) }
+    ensures unread { IfErr result (KeepsUnread (W.contents output.old) (W.contents output.new)) }
+{
     let mut sheet = [0u8; solver::SHEET_BUFFER];
     let mut cnf = [0u8; solver::EXPORT_ROOM];
-    let read = read_sheet(&mut sheet);
-    if read.whole {
-        let count = read.count;
-        let size = solver::print_cnf(&sheet[..count], budget, &mut cnf);
-        write_out(&cnf[..size]);
-    }
+    let count = read_sheet(input, &mut sheet).map_err(Failure::Unread)?;
+    let size = solver::print_cnf(&sheet[..count], budget, &mut cnf);
+    output.write_all(&cnf[..size]).map_err(Failure::Unwritten)
 }
 
 // A word behind the command's name. One that doesn't fit is as long as the buffer, and so none of the command's.
-fn fetch(i: usize, word: &mut [u8; WORD_BUFFER]) -> usize
-    ensures { IsPrefixLen result word.new }
+fn fetch(rt: &impl Env, i: usize, word: &mut [u8; WORD_BUFFER]) -> usize
+    ensures { result ≤ length word.new }
 {
-    let length = os::arg(i, word);
-    if os::errno() == libc::ENAMETOOLONG {
-        return io::count(WORD_BUFFER as isize, word);
+    match rt.arg(i, word) {
+        Ok(length) => length,
+        Err(FillError::TooLong) => WORD_BUFFER,
+        Err(FillError::NotPresent) => 0,
     }
-    length
 }
 
 // How many words stand behind the command's name, which is an argument too.
-fn count_words() -> usize {
-    let arguments = os::arg_count();
-    if arguments == 0 {
-        return 0;
+fn count_words(rt: &impl Env) -> usize {
+    let mut count = 0;
+    for i in 1..usize::MAX {
+        let mut word = [0u8; WORD_BUFFER];
+        if let Err(FillError::NotPresent) = rt.arg(i, &mut word) {
+            break;
+        }
+        count = i;
     }
-    arguments - 1
+    count
 }
 
 // What the words order.
-fn order() -> Order {
+fn order(rt: &impl Env) -> Order {
     let mut first = [0u8; WORD_BUFFER];
     let mut second = [0u8; WORD_BUFFER];
     let mut third = [0u8; WORD_BUFFER];
-    let one = fetch(1, &mut first);
-    let two = fetch(2, &mut second);
-    let three = fetch(3, &mut third);
+    let one = fetch(rt, 1, &mut first);
+    let two = fetch(rt, 2, &mut second);
+    let three = fetch(rt, 3, &mut third);
     command::order_of(
-        count_words(),
+        count_words(rt),
         &first[..one],
         &second[..two],
         &third[..three],
     )
 }
 
-fn main() {
-    match order() {
-        Order::Listing(budget) => print_listing(budget),
-        Order::Cnf(budget) => print_cnf(budget),
+// What the words order is printed; what failed is told, as far as standard error takes it.
+fn main(rt: HostRuntime) {
+    let printed = match order(&rt) {
+        Order::Listing(budget) => print_listing(&mut rt.stdin(), &mut rt.stdout(), budget),
+        Order::Cnf(budget) => print_cnf(&mut rt.stdin(), &mut rt.stdout(), budget),
         Order::Usage => {
-            io::write_all(
-                STDERR_FILENO,
-                b"usage: thunyaworm [budget N] [cnf] < SHEET\n",
-            );
+            let _ = rt.eprintln("usage: thunyaworm [budget N] [cnf] < SHEET");
+            Ok(())
         }
+    };
+    if let Err(failure) = printed {
+        let _ = eprintln!(rt; "thunyaworm: {failure}");
     }
 }

@@ -1,9 +1,16 @@
 // Runs both calls on sheets from standard input, each call with a room of its own, and prints what they hand back and leave there.
 // A sheet stands behind a line with three numbers: its length in five places, the budget in ten, the rooms' length in five.
+#![tactic(auto)]
+
 ghost use Rattle.std.specs.Prelude.{◌≤◌, length};
+ghost use Rattle.std.specs.Io.{ReadsAtMost};
 
 use definitions::Answer;
-use libc::{STDIN_FILENO, STDOUT_FILENO};
+use std::io;
+use std::io::{Input, Read};
+
+// The most sheets that are read.
+const SHEETS: usize = 1000;
 
 // What stands at a place of a room before a call.
 fn mark(at: usize) -> u8 {
@@ -11,10 +18,8 @@ fn mark(at: usize) -> u8 {
 }
 
 fn fill(room: &mut [u8]) {
-    let mut i: usize = 0;
-    while i < room.len() {
+    for i in 0..room.len() {
         room[i] = mark(i);
-        i += 1;
     }
 }
 
@@ -31,10 +36,8 @@ fn differ(a: u8, b: u8) -> usize
 // How many bytes of a room are no longer those before, from a place on.
 fn changed(room: &[u8], from: usize) -> usize {
     let mut count: usize = 0;
-    let mut i = from;
-    while i < room.len() {
+    for i in from..room.len() {
         count += differ(room[i], mark(i));
-        i += 1;
     }
     count
 }
@@ -42,73 +45,83 @@ fn changed(room: &[u8], from: usize) -> usize {
 // In how many bytes two rooms differ, as far as both go.
 fn unlike(one: &[u8], other: &[u8]) -> usize {
     let mut count: usize = 0;
-    let mut i: usize = 0;
-    while i < one.len() && i < other.len() {
+    for i in 0..one.len().min(other.len()) {
         count += differ(one[i], other[i]);
-        i += 1;
     }
     count
 }
 
-fn print(n: u64) {
-    io::write_all(STDOUT_FILENO, b" ");
-    io::print_decimal(STDOUT_FILENO, n);
+fn print(rt: &impl Print, n: u64) -> io::Result<()> {
+    print!(rt; " {n}")
 }
 
 // What the first call hands back.
-fn print_answer(answer: Answer) {
+fn print_answer(rt: &impl Print, answer: Answer) -> io::Result<()> {
     match answer {
         Answer::Refused(refusal) => {
-            io::write_all(STDOUT_FILENO, b"refused");
-            print(refusal.number as u64);
-            print(refusal.line as u64);
+            print!(rt; "refused")?;
+            print(rt, refusal.number as u64)?;
+            print(rt, refusal.line as u64)
         }
         Answer::Answered(counts) => {
-            io::write_all(STDOUT_FILENO, b"answered");
+            print!(rt; "answered")?;
             let verdict = counts.verdict;
-            print(listing::number(verdict) as u64);
-            print(counts.atoms as u64);
-            print(counts.logged as u64);
-            print(counts.decisions as u64);
-            print(counts.conflicts);
+            print(rt, listing::number(verdict) as u64)?;
+            print(rt, counts.atoms as u64)?;
+            print(rt, counts.logged as u64)?;
+            print(rt, counts.decisions as u64)?;
+            print(rt, counts.conflicts)
         }
     }
 }
 
 // The second call: prints its part's length and in how many bytes the part differs from the front of the first room. Gives the length.
-fn print_part(sheet: &[u8], budget: u32, room: &mut [u8], first: &[u8]) -> usize {
+fn print_part(
+    rt: &impl Print,
+    sheet: &[u8],
+    budget: u32,
+    room: &mut [u8],
+    first: &[u8],
+) -> io::Result<usize> {
     let part = solver::solve_listing(sheet, budget, room);
     let length = part.len();
-    io::write_all(STDOUT_FILENO, b" part");
-    print(length as u64);
-    io::write_all(STDOUT_FILENO, b" unlike");
-    print(unlike(part, first) as u64);
-    length
+    let differing = unlike(part, first);
+    print!(rt; " part {length} unlike {differing}")?;
+    Ok(length)
 }
 
 // So many bytes at the front of a room, or nothing where it has fewer.
-fn print_front(room: &[u8], length: usize) {
-    if length <= room.len() {
-        io::write_all(STDOUT_FILENO, &room[..length]);
+fn print_front(rt: &impl Print, room: &[u8], length: usize) -> io::Result<()> {
+    if room.len() < length {
+        return Ok(());
     }
+    Print::write_all(rt, &room[..length])
 }
 
 // Both calls, each with so many bytes of a room: what they hand back, then the listing. The four counts at the line's end are to be 0:
 // bytes of the part that are not those of the first room, bytes changed behind the listing in either room, bytes in which the rooms
 // differ.
-fn trial(sheet: &[u8], budget: u32, size: usize, first: &mut [u8], second: &mut [u8])
-    requires { (size ≤ length first.old) × (size ≤ length second.old) }
+fn trial(
+    rt: &impl Print,
+    sheet: &[u8],
+    budget: u32,
+    size: usize,
+    first: &mut [u8],
+    second: &mut [u8],
+) -> io::Result<()>
+    requires of_first { size ≤ length first.old }
+    requires of_second { size ≤ length second.old }
 {
     fill(first);
     fill(second);
     let answer = solver::solve(sheet, budget, &mut first[..size]);
-    print_answer(answer);
-    let length = print_part(sheet, budget, &mut second[..size], first);
-    print(changed(first, length) as u64);
-    print(changed(second, length) as u64);
-    print(unlike(first, second) as u64);
-    io::write_all(STDOUT_FILENO, b"\n");
-    print_front(first, length);
+    print_answer(rt, answer)?;
+    let length = print_part(rt, sheet, budget, &mut second[..size], first)?;
+    print(rt, changed(first, length) as u64)?;
+    print(rt, changed(second, length) as u64)?;
+    print(rt, unlike(first, second) as u64)?;
+    println!(rt;)?;
+    print_front(rt, first, length)
 }
 
 // The value of a digit, 0 for any other byte.
@@ -138,33 +151,47 @@ fn grown(value: u64, b: u8, most: u64) -> u64
 
 // The number in some places of a line, but no more than what is named.
 fn number(line: &[u8; 23], from: usize, to: usize, most: u64) -> u64
-    requires { (to ≤ 23) × (most ≤ 4294967295) }
+    requires within { to ≤ 23 }
+    requires fits { most ≤ 4294967295 }
     ensures { result ≤ most }
 {
     let mut value: u64 = 0;
-    let mut i = from;
-    while i < to {
+    for i in from..to {
         value = grown(value, line[i], most);
-        i += 1;
     }
     value
 }
 
-fn main() {
-    let mut left: usize = 1000;
-    while 0 < left {
+// Reads until the buffer is full or the input ends.
+fn read_full<R: Read>(input: &mut R, buffer: &mut [u8]) -> io::Result<usize>
+    ensures { ReadsAtMost result buffer.new }
+{
+    let mut count: usize = 0;
+    while count < buffer.len() {
+        let more = input.read(&mut buffer[count..])?;
+        if more == 0 {
+            break;
+        }
+        count += more;
+    }
+    Ok(count)
+}
+
+fn main(rt: HostRuntime) -> io::Result<()> {
+    let mut input = rt.reader();
+    for _ in 0..SHEETS {
         let mut line = [0u8; 23];
-        if io::read_full(STDIN_FILENO, &mut line) < 23 {
-            return;
+        if read_full(&mut input, &mut line)? < 23 {
+            break;
         }
         let length = number(&line, 0, 5, 99999) as usize;
         let budget = number(&line, 6, 16, 4294967295) as u32;
         let size = number(&line, 17, 22, 45100) as usize;
         let mut space = [0u8; 99999];
-        let count = io::read_full(STDIN_FILENO, &mut space[..length]);
+        let count = read_full(&mut input, &mut space[..length])?;
         let mut first = [0u8; 45100];
         let mut second = [0u8; 45100];
-        trial(&space[..count], budget, size, &mut first, &mut second);
-        left -= 1;
+        trial(&rt, &space[..count], budget, size, &mut first, &mut second)?;
     }
+    Ok(())
 }
