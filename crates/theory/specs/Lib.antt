@@ -41,6 +41,4 @@ pub mod Exports
 pub mod ExportLaws
 pub mod RefusedLineLaws
 pub mod CallAnswers
-pub mod Demand3
 pub mod CarriedLaws
-pub mod ModelLaws
