@@ -24,7 +24,8 @@ use Rattle.units.specs.ClausesStand.{act_word}
 use Rattle.units.specs.UnitLaws.{act-stands}
 use Rattle.units.specs.TrailWords.{latest_decision, first_unset, TrailStands}
 use Rattle.walk.specs.Walk.{walk_from}
-use Rattle.walk.specs.WalkStands.{WalkAs, walk-stands}
+use Rattle.walk.specs.WalkStands.{WalkAs}
+use Rattle.walk.proofs.WalkStands.{walk-stands}
 use Rattle.clause_log.specs.LogHolds.{holds-index}
 use Rattle.machine.specs.Machine.{Machine, log_in, Stands, RulesStand}
 use Rattle.encoding.specs.WordTruths.{true-word}
