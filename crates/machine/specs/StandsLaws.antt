@@ -15,7 +15,8 @@ use Rattle.theory.specs.ListLaws.{at_split, in-along, pigeonhole}
 use Rattle.theory.specs.SearchLaws.{Consistent, true-at, unset-new, goal-first}
 use Rattle.theory.specs.Steps.{unit}
 use Rattle.theory.specs.Trail.{Decision, Consequence, Ok, bare, next}
-use Rattle.theory.specs.Choices.{choice_world, inv-act}
+use Rattle.theory.specs.Choices.{choice_world}
+use Rattle.theory.proofs.Choices.{inv-act}
 use Rattle.theory.specs.Unknown.{consistent}
 use Rattle.theory.specs.Ends.{Fits, step_fits}
 use Rattle.units.specs.Units.{act_from}

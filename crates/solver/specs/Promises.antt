@@ -44,20 +44,21 @@ use Rattle.theory.specs.InstanceLaws.{substitution-complete, every-filling, only
 use Rattle.theory.specs.SearchLaws.{clause-once, heads-once}
 use Rattle.theory.specs.CallLaws.{call-comes, prints-listing, small-part, large-part}
 use Rattle.theory.specs.CallAnswers.{answer-from-search, its-search}
-use Rattle.theory.specs.TruthLaws.{search-tells-apart}
+use Rattle.theory.proofs.TruthLaws.{search-tells-apart}
 use Rattle.theory.specs.TwoWayLaws.{equivalence-rules, rules-equivalence, lines-rules}
 use Rattle.theory.specs.Limits.{accepted-limits, accepted-from-lines}
 use Rattle.theory.specs.Reading.{sheet-says}
-use Rattle.theory.specs.ListedClauses.{log-listed}
-use Rattle.theory.specs.NumberLaws.{search-asking}
+use Rattle.theory.proofs.ListedClauses.{log-listed}
+use Rattle.theory.proofs.NumberLaws.{search-asking}
 use Rattle.theory.proofs.Demand3.{never-satisfied, never-unknown}
 use Rattle.theory.specs.Connected.{connected-heads, head_apart}
 use Rattle.theory.specs.BlankColumns.{nothing-blank, passed_over, blank-line, same-reading, same-accepted, same-results, same-keeps}
 use Rattle.theory.specs.FailingLines.{fails-4-to-14, fails-12, fails-14}
 use Rattle.theory.specs.CnfReads.{cnf-round-trip, cnf-exact}
 use Rattle.theory.specs.CnfRefusals.{cnf-refusals, bad-header, good-header}
-use Rattle.theory.specs.Exports.{export-limits, export-size}
-use Rattle.theory.specs.ExportLaws.{export-comes, export-as-first-call, exported-read-back, prints-text}
+use Rattle.theory.proofs.Exports.{export-limits, export-size}
+use Rattle.theory.specs.ExportLaws.{export-comes, export-as-first-call, prints-text}
+use Rattle.theory.proofs.ExportLaws.{exported-read-back}
 use Rattle.theory.specs.RefusedLineLaws.{blank-fails-7, call-refused-at, call-no-line, call-14, refused-at-call, export-refused-at, export-no-line, export-14, refused-at-export}
 use Rattle.theory.proofs.CarriedLaws.{unsat-carried, exported-carried, printed-carried, table-decides, numbers-decide, listed-follows, printed-follows, satisfies-clauses, exported-refutes, printed-refutes, both-answered, both-export-answered}
 use Rattle.theory.proofs.ModelLaws.{unknown-settings, is-unknown, model-listed, model-positive, model-named}

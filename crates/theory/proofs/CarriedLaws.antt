@@ -39,16 +39,17 @@ use Rattle.theory.specs.InstanceLaws.{only-fillings, filled-rule, filled-heads, 
 use Rattle.theory.specs.TwoWayLaws.{lines-rules}
 use Rattle.theory.specs.Limits.{Limits, limits-searchable, accepted-limits, accepted-from-lines}
 use Rattle.theory.specs.ListingLaws.{listing_begins}
-use Rattle.theory.specs.ListedClauses.{logged-rows, row-clause-read}
+use Rattle.theory.proofs.ListedClauses.{logged-rows, row-clause-read}
 use Rattle.theory.specs.Trail.{World, Laws, LogOk}
 use Rattle.theory.specs.CarriedLaws.{UnsatLog}
-use Rattle.theory.specs.Answers.{search-inv}
-use Rattle.theory.specs.Choices.{logged-ok}
-use Rattle.theory.specs.Invariants.{search-sound}
+use Rattle.theory.proofs.Answers.{search-inv}
+use Rattle.theory.proofs.Choices.{logged-ok}
+use Rattle.theory.proofs.Invariants.{search-sound}
 use Rattle.theory.specs.NumberLaws.{clauses-short}
 use Rattle.theory.specs.Theorems.{search-comes-to-an-answer}
 use Rattle.theory.specs.CallLaws.{large-room, call-comes, accepted-injective, printed-listing}
-use Rattle.theory.specs.ExportLaws.{export-comes, export-as-first-call, exported-read-back, printed-read-back}
+use Rattle.theory.specs.ExportLaws.{export-comes, export-as-first-call}
+use Rattle.theory.proofs.ExportLaws.{exported-read-back, printed-read-back}
 
 -- ── no assignment satisfies the goal clauses and the log ──
 

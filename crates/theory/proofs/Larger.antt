@@ -15,7 +15,7 @@ use Rattle.theory.specs.WordLaws.{makes-not-both, goal-of, goal-from}
 use Rattle.theory.specs.PlaceLaws.{get_elem-at}
 use Rattle.theory.specs.InstanceLaws.{substitutions-more, every-filling, only-fillings, filled-rule, filled-heads, filled-body}
 use Rattle.theory.specs.TwoWayLaws.{filling-implies, FromLines, lines-rules}
-use Rattle.theory.specs.Choices.{unsat-means}
+use Rattle.theory.proofs.Choices.{unsat-means}
 use Rattle.theory.specs.Larger.{Among, Respects, Includes}
 use Rattle.theory.proofs.Unknown.{unknown-means}
 

@@ -14,10 +14,10 @@ use Rattle.definitions.specs.Listing.{Field, listing_lines, listing}
 use Rattle.definitions.specs.declared.Verdict.{Verdict}
 use Rattle.definitions.specs.declared.Verdict.TheVariants.{Unsat, Unknown, Spent, Full}
 use Rattle.theory.specs.Counts.{decisions-within-budget, conflicts-at-most-decisions-plus-1, spent-only-when, full-only-when, limits-kept, no-instance-logged-twice}
-use Rattle.theory.specs.Choices.{unsat-means}
+use Rattle.theory.proofs.Choices.{unsat-means}
 use Rattle.theory.specs.Limits.{accepted-limits}
 use Rattle.theory.specs.ListingLaws.{FieldFits, listing-fits, listing-length}
-use Rattle.theory.specs.Sizes.{search-listable}
+use Rattle.theory.proofs.Sizes.{search-listable}
 use Rattle.theory.proofs.Unknown.{unknown-means}
 
 module _ (sheet : List ℕ) (p : Problem) (reads : read sheet ≡ accepted p) (budget : ℕ) where

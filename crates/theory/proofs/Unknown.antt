@@ -14,7 +14,8 @@ use Rattle.definitions.specs.Verdicts.{setting, FirstChoice}
 use Rattle.definitions.specs.declared.Verdict.TheVariants.{Unknown}
 use Rattle.theory.specs.SearchLaws.{true-at, entry-true, goals-set}
 use Rattle.theory.specs.Trail.{Gave, Decision, decision-goal, Consequence, Ok, bare, next}
-use Rattle.theory.specs.Choices.{choice_world, search-tells}
+use Rattle.theory.specs.Choices.{choice_world}
+use Rattle.theory.proofs.Choices.{search-tells}
 use Rattle.theory.specs.Unknown.{true-makes, consistent, closure-true, fails-in-neither, earlier-fails}
 
 module _ (k : Task) where
