@@ -17,8 +17,8 @@ use Rattle.definitions.specs.Call as call
 use Rattle.definitions.specs.Export.{export_of}
 use Rattle.definitions.specs.declared.Verdict.{Verdict}
 use Rattle.definitions.specs.declared.Answer.TheVariants.{Refused, Answered}
-use Rattle.theory.specs.Theorems.{listing-at-most}
-use Rattle.theory.specs.Exports.{export-at-most}
+use Rattle.theory.proofs.Theorems.{listing-at-most}
+use Rattle.theory.proofs.Exports.{export-at-most}
 use Rattle.theory.specs.ExportLaws.{refused-text}
 use Rattle.encoding.specs.Values.{Values}
 use Rattle.column.specs.Sets.{sets-front}

@@ -19,7 +19,6 @@ pub mod RefusedLines
 pub mod Carried
 pub mod Command
 pub mod Models
-pub mod Supposed
 pub mod Trials
 pub mod Refusals
 pub mod WrongTurns
@@ -27,6 +26,4 @@ pub mod TwoWayTrials
 pub mod KeepsTrials
 pub mod DimacsTrials
 pub mod CarriedTrials
-pub mod RefusedLineTrials
-pub mod ModelTrials
 pub mod CommandTrials

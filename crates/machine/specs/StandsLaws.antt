@@ -15,7 +15,8 @@ use Rattle.theory.specs.ListLaws.{at_split, in-along, pigeonhole}
 use Rattle.theory.specs.SearchLaws.{Consistent, true-at, unset-new, goal-first}
 use Rattle.theory.specs.Steps.{unit}
 use Rattle.theory.specs.Trail.{Decision, Consequence, Ok, bare, next}
-use Rattle.theory.specs.Choices.{choice_world, inv-act}
+use Rattle.theory.specs.Choices.{choice_world}
+use Rattle.theory.proofs.Choices.{inv-act}
 use Rattle.theory.specs.Unknown.{consistent}
 use Rattle.theory.specs.Ends.{Fits, step_fits}
 use Rattle.units.specs.Units.{act_from}
@@ -24,7 +25,8 @@ use Rattle.units.specs.ClausesStand.{act_word}
 use Rattle.units.specs.UnitLaws.{act-stands}
 use Rattle.units.specs.TrailWords.{latest_decision, first_unset, TrailStands}
 use Rattle.walk.specs.Walk.{walk_from}
-use Rattle.walk.specs.WalkStands.{WalkAs, walk-stands}
+use Rattle.walk.specs.WalkStands.{WalkAs}
+use Rattle.walk.proofs.WalkStands.{walk-stands}
 use Rattle.clause_log.specs.LogHolds.{holds-index}
 use Rattle.machine.specs.Machine.{Machine, log_in, Stands, RulesStand}
 use Rattle.encoding.specs.WordTruths.{true-word}

@@ -19,7 +19,7 @@ use Rattle.theory.specs.TableLaws.{by-known, enter-known, enter-fresh}
 use Rattle.theory.specs.Limits.{Searchable}
 use Rattle.theory.specs.Steps.{Step, unit, undone, refuted, logs, overflows, decides, overspends, rests, kind}
 use Rattle.theory.specs.Counts.{step_counts}
-use Rattle.theory.specs.Invariants.{step-sound}
+use Rattle.theory.proofs.Invariants.{step-sound}
 use Rattle.encoding.specs.Slots.{rule_words}
 use Rattle.encoding.specs.ValueLaws.{length-assigned}
 use Rattle.encoding.specs.Encoding.{literal_word, sizes_of}

@@ -33,34 +33,35 @@ use Rattle.definitions.specs.declared.Verdict.TheVariants.{Unsat, Unknown, Spent
 use Rattle.definitions.specs.declared.Counts.{Counts}
 use Rattle.definitions.specs.declared.Refusal.{Refusal}
 use Rattle.definitions.specs.declared.Answer.TheVariants.{Refused, Answered}
-use Rattle.definitions.specs.Supposed.{its-accepted, all_but_p, its-satisfied, both_earlier, broken, handed-back, larger, larger-accepted, larger-keeps, plainly, with_blanks, filled-alike, longer, numbers-satisfied}
-use Rattle.definitions.specs.Supposed
+use Rattle.definitions.proofs.Supposed.{its-accepted, all_but_p, its-satisfied, both_earlier, broken, handed-back, larger, larger-accepted, larger-keeps, plainly, with_blanks, filled-alike, longer, numbers-satisfied}
+use Rattle.definitions.proofs.Supposed
 use Rattle.definitions.specs.TwoWayTrials.{free_sheet, free_problem, free-read, body_alone, clauses-satisfied, rules-satisfied, equivalence-broken}
 use Rattle.definitions.specs.CarriedTrials.{both_sheet, both_problem, both_read, both_state, both_ends, both_counts, both-begins, two-logged, all_but, each_needed, first_row, first-follows, first-listed, two-in-body, first-satisfied, filling-broken}
-use Rattle.definitions.specs.RefusedLineTrials.{sheet_with, apart_line, apart-refused, kept_apart_line, kept-apart-refused, free_line, free-refused, blank_line, blank-refused}
-use Rattle.definitions.specs.ModelTrials.{plates, plates-two-way, named_atom, unnamed_atom, open_atom, no_reverse, open-unsatisfied, reverse-unsatisfied}
-use Rattle.theory.specs.Theorems.{unsat, unknown, spent, full, decisions-at-most-the-budget, conflicts-at-most-one-more, logged-once}
+use Rattle.definitions.proofs.RefusedLineTrials.{sheet_with, apart_line, apart-refused, kept_apart_line, kept-apart-refused, free_line, free-refused, blank_line, blank-refused}
+use Rattle.definitions.proofs.ModelTrials.{plates, plates-two-way, named_atom, unnamed_atom, open_atom, no_reverse, open-unsatisfied, reverse-unsatisfied}
+use Rattle.theory.proofs.Theorems.{unsat, unknown, spent, full, decisions-at-most-the-budget, conflicts-at-most-one-more, logged-once}
 use Rattle.theory.specs.InstanceLaws.{substitution-complete, every-filling, only-fillings}
 use Rattle.theory.specs.SearchLaws.{clause-once, heads-once}
 use Rattle.theory.specs.CallLaws.{call-comes, prints-listing, small-part, large-part}
 use Rattle.theory.specs.CallAnswers.{answer-from-search, its-search}
-use Rattle.theory.specs.TruthLaws.{search-tells-apart}
+use Rattle.theory.proofs.TruthLaws.{search-tells-apart}
 use Rattle.theory.specs.TwoWayLaws.{equivalence-rules, rules-equivalence, lines-rules}
 use Rattle.theory.specs.Limits.{accepted-limits, accepted-from-lines}
 use Rattle.theory.specs.Reading.{sheet-says}
-use Rattle.theory.specs.ListedClauses.{log-listed}
-use Rattle.theory.specs.NumberLaws.{search-asking}
-use Rattle.theory.specs.Demand3.{never-satisfied, never-unknown}
+use Rattle.theory.proofs.ListedClauses.{log-listed}
+use Rattle.theory.proofs.NumberLaws.{search-asking}
+use Rattle.theory.proofs.Demand3.{never-satisfied, never-unknown}
 use Rattle.theory.specs.Connected.{connected-heads, head_apart}
 use Rattle.theory.specs.BlankColumns.{nothing-blank, passed_over, blank-line, same-reading, same-accepted, same-results, same-keeps}
 use Rattle.theory.specs.FailingLines.{fails-4-to-14, fails-12, fails-14}
 use Rattle.theory.specs.CnfReads.{cnf-round-trip, cnf-exact}
 use Rattle.theory.specs.CnfRefusals.{cnf-refusals, bad-header, good-header}
-use Rattle.theory.specs.Exports.{export-limits, export-size}
-use Rattle.theory.specs.ExportLaws.{export-comes, export-as-first-call, exported-read-back, prints-text}
+use Rattle.theory.proofs.Exports.{export-limits, export-size}
+use Rattle.theory.specs.ExportLaws.{export-comes, export-as-first-call, prints-text}
+use Rattle.theory.proofs.ExportLaws.{exported-read-back}
 use Rattle.theory.specs.RefusedLineLaws.{blank-fails-7, call-refused-at, call-no-line, call-14, refused-at-call, export-refused-at, export-no-line, export-14, refused-at-export}
-use Rattle.theory.specs.CarriedLaws.{unsat-carried, exported-carried, printed-carried, table-decides, numbers-decide, listed-follows, printed-follows, satisfies-clauses, exported-refutes, printed-refutes, both-answered, both-export-answered}
-use Rattle.theory.specs.ModelLaws.{unknown-settings, is-unknown, model-listed, model-positive, model-named}
+use Rattle.theory.proofs.CarriedLaws.{unsat-carried, exported-carried, printed-carried, table-decides, numbers-decide, listed-follows, printed-follows, satisfies-clauses, exported-refutes, printed-refutes, both-answered, both-export-answered}
+use Rattle.theory.proofs.ModelLaws.{unknown-settings, is-unknown, model-listed, model-positive, model-named}
 use Rattle.encoding.specs.Encoding.{literal_word, sizes_of}
 use Rattle.encoding.specs.Values.{Values, goals_set, goals_true, literal_value}
 use Rattle.encoding.specs.Standing.{Valued, GoalWords}

@@ -1,22 +1,17 @@
 -- The candidates are choices: each has the literals of its closure, and is ruled out if it breaks a goal clause or leads to
--- a clash. What the invariant asks of candidates holds of them, so UNSAT means what document 01 says. Assumes nothing.
-use Rattle.std.specs.Prelude.{ℕ, ◌≡◌, ◌⊎◌}
+-- a clash. What the invariant asks of candidates holds of them. Assumes nothing.
+use Rattle.std.specs.Prelude.{◌⊎◌}
 use Rattle.std.proofs.Common.{sym, subst, inl, inr}
-use Rattle.std.proofs.Math.Option.{some}
 use Rattle.definitions.specs.Lists.{◌∈◌}
-use Rattle.definitions.specs.Words.{Literal, negate, Clause, Problem, goal_atoms}
-use Rattle.definitions.specs.Instances.{Instance, Task, task_of}
+use Rattle.definitions.specs.Words.{Literal, negate, Clause, goal_atoms}
+use Rattle.definitions.specs.Instances.{Instance, Task}
 use Rattle.definitions.specs.Meaning.{Choice, Makes, Closure, chosen, derived, both_signs, false_body, Fails}
-use Rattle.definitions.specs.Search.{Logged, clause_of, State, Act, next_act, Outcome, done, search_task, search}
-use Rattle.definitions.specs.declared.Verdict.{Verdict}
-use Rattle.definitions.specs.declared.Verdict.TheVariants.{Unsat}
+use Rattle.definitions.specs.Search.{Logged, clause_of}
 use Rattle.theory.specs.Tests.{by-option}
 use Rattle.theory.specs.ListLaws.{all-or-else}
 use Rattle.theory.specs.WordLaws.{negate-negate, negate-atom, makes_one, goal-of}
 use Rattle.theory.specs.SearchLaws.{clause-head, clause-taken}
-use Rattle.theory.specs.Trail.{World, LogOk, Refutes, Laws, ActOk, act-ok}
-use Rattle.theory.specs.Steps.{Step, After}
-use Rattle.theory.specs.Answers.{LogsOk, Inv, InvTells, step-inv, search-inv}
+use Rattle.theory.specs.Trail.{World, LogOk, Refutes, Laws}
 
 module _ (k : Task) where
   abbrev pub choice_world : World
@@ -68,24 +63,3 @@ module _ (k : Task) where
           | inr f ↦ inr f
         ];
       }
-
-  -- ── the invariant of the search: choices obey every clause that comes from an instance ──
-
-  pub inv-act : (s : State) (v : Inv k choice_world s) (a : Act) → next_act k s ≡ some a → ActOk k choice_world s.trail a
-  inv-act s v = act-ok k choice_world choice-laws s v.trailed v.log_ok v.log_ok
-
-  pub inv-step : (budget : ℕ) (s : State) → Inv k choice_world s → (o : Outcome) → Step k budget s o
-      → After (Inv k choice_world) (InvTells k choice_world) o
-  inv-step budget s v = step-inv k choice_world choice-laws budget s v.log_ok v
-
-  pub search-tells : (budget : ℕ) (v : Verdict) (s : State) → search_task k budget ≡ done v s → InvTells k choice_world v s
-  search-tells budget v s e = let (ok, tells) = search-inv k choice_world choice-laws budget v s e in tells ok
-
-  -- UNSAT: every choice of the goal's atoms breaks a goal clause, or its closure has a clash
-  pub unsat-means : (budget : ℕ) (s : State) → search_task k budget ≡ done Unsat s → (σ : Choice) → Fails k σ
-  unsat-means budget s e = (search-tells budget Unsat s e).1
-
--- where a search ends, each logged clause comes from an instance of the problem
-pub logged-ok : (p : Problem) (budget : ℕ) (v : Verdict) (s : State) → search p budget ≡ done v s → LogsOk (task_of p) s
-unfolding search
-logged-ok p budget v s e = (search-tells (task_of p) budget v s e).0.log_ok

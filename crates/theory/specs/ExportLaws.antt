@@ -1,25 +1,22 @@
--- What an export call comes to, by its two rooms and its sheet, that it answers and lists as the first call does, and that its text is
--- read back. Assumes nothing.
-use Rattle.std.specs.Prelude.{ℕ, ◌≤◌, ◌<◌, ◌≡◌, refl, leb, take, drop}
+-- What an export call comes to, by its two rooms and its sheet, and that it answers and lists as the first call does. Assumes nothing.
+use Rattle.std.specs.Prelude.{ℕ, ◌≤◌, ◌<◌, ◌≡◌, refl, leb}
 use Rattle.std.proofs.Math.Path.{sym, ap}
 use Rattle.std.proofs.Common.{◌∙◌}
 use Rattle.std.proofs.Math.Option.{none, some}
 use mathlib.Core.List.{List, []}
 use Rattle.std.proofs.Math.ListN.{length}
-use Rattle.std.proofs.Math.Seq.{take-append_seam}
 use borrow.Author.Tests.{le-leb, lt-leb, leb-true, leb-false}
 use Rattle.definitions.specs.Bounds.{room_bytes, export_bytes}
 use Rattle.definitions.specs.Words.{Problem}
-use Rattle.definitions.specs.Questions.{yes, Reading, refused, accepted, read}
+use Rattle.definitions.specs.Questions.{Reading, refused, accepted, read}
 use Rattle.definitions.specs.Search.{State, done, search}
-use Rattle.definitions.specs.Dimacs.{cnf_of, cnf_text, read_cnf}
-use Rattle.definitions.specs.Call.{Result, refusal, ended, searched, answered, lendings, first_short, after_lending, result, answer_of, listing_of, written, call, room_after, printed_of, values, Prints}
+use Rattle.definitions.specs.Dimacs.{cnf_of, cnf_text}
+use Rattle.definitions.specs.Call.{Result, refusal, ended, searched, answered, lendings, first_short, after_lending, result, answer_of, listing_of, written, call, room_after, values, Prints}
 use Rattle.definitions.specs.Export.{export_lendings, export_result, export_of, export_call, export_text, room_after_export, export_after, printed_cnf, ExportRefused, Exports, ExportComes, room_too_small, export_too_small, improper_sheet, proper_sheet}
 use Rattle.definitions.specs.declared.Verdict.{Verdict}
 use Rattle.theory.specs.Tests.{by-test}
 use Rattle.theory.specs.Theorems.{search-comes-to-an-answer}
 use Rattle.theory.specs.CallLaws.{large-room, prints}
-use Rattle.theory.specs.Exports.{export-round-trip}
 
 -- the questions about what is lent
 pub short-listing : (room export : ℕ) → room < room_bytes → first_short (export_lendings room export) ≡ some 1
@@ -130,29 +127,9 @@ module _ (sheet : List ℕ) (budget : ℕ) (room export : List ℕ) where
       = enough-lent large wide ∙ sym (large-room sheet budget room large) in
       (ap answer_of same, ap (λ (r : Result). written (listing_of r) room) same)
 
-  -- ── the text is read back ──
-
-  pub exported-read-back : room_bytes ≤ length room → export_bytes ≤ length export → (p : Problem) → read sheet ≡ accepted p
-      → (v : Verdict) (s : State) → search p budget ≡ done v s
-      → read_cnf (take (length (export_text sheet budget room export)) (export_after sheet budget room export)) ≡ yes (cnf_of p.clauses s)
-  unfolding export_after written
-  exported-read-back large wide p reads v s e =
-      let text = export_text sheet budget room export in
-      ap read_cnf (take-append_seam text (drop (length text) export) ∙ text-of-answer p reads v s (result-of-search p reads large wide v s e))
-      ∙ export-round-trip sheet p reads budget v s e
-
 -- ── the text that the program prints ──
 
 pub prints-text : (sheet : List ℕ) (budget : ℕ) → Prints (λ p v s. cnf_text (cnf_of p.clauses s)) sheet budget (printed_cnf sheet budget)
 unfolding printed_cnf
 prints-text sheet budget =
     prints sheet budget (export_of (read sheet)) (λ p v s. cnf_text (cnf_of p.clauses s)) (λ p e v s. unfold export_of in ap (λ (r : Reading). export_of r (ended v s)) e)
-
--- it is read back too
-pub printed-read-back : (sheet : List ℕ) (p : Problem) → read sheet ≡ accepted p → (budget : ℕ) (v : Verdict) (s : State) → search p budget ≡ done v s
-    → read_cnf (printed_cnf sheet budget) ≡ yes (cnf_of p.clauses s)
-unfolding printed_cnf printed_of answered searched export_of
-printed-read-back sheet p reads budget v s e = ap read_cnf printed-text ∙ export-round-trip sheet p reads budget v s e
-  where
-    printed-text : printed_cnf sheet budget ≡ cnf_text (cnf_of p.clauses s)
-    printed-text = rw (reads, e) refl

@@ -28,7 +28,6 @@ pub mod Invariants
 pub mod ListingLaws
 pub mod ColumnsRead
 pub mod Sizes
-pub mod ListedClauses
 pub mod NumberLaws
 pub mod Theorems
 pub mod CallLaws
@@ -37,10 +36,7 @@ pub mod Recent
 pub mod CnfText
 pub mod CnfReads
 pub mod CnfRefusals
-pub mod Exports
 pub mod ExportLaws
 pub mod RefusedLineLaws
 pub mod CallAnswers
-pub mod Demand3
 pub mod CarriedLaws
-pub mod ModelLaws

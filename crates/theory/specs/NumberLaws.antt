@@ -1,5 +1,5 @@
 -- A clause with a true literal, or with two that are not false, asks for nothing, so step A may pass it over unread. Assumes nothing.
-use Rattle.std.specs.Prelude.{ℕ, ◌≤◌, ◌≡◌, Bool, false, [], ◌∷◌, length}
+use Rattle.std.specs.Prelude.{◌≤◌, ◌≡◌, Bool, false, [], ◌∷◌, length}
 use Rattle.std.proofs.Math.Path.{refl}
 use Rattle.std.proofs.Common.{subst, arith}
 use Rattle.std.proofs.Math.Bool.{true}
@@ -9,15 +9,12 @@ use Rattle.std.proofs.Math.Dec.{leb}
 use Rattle.definitions.specs.Lists.{◌∈◌, any, filter, first_some}
 use Rattle.definitions.specs.Words.{Literal, Clause, Problem}
 use Rattle.definitions.specs.Instances.{Task, task_of}
-use Rattle.definitions.specs.Search.{Trail, is_true, is_false, is_unset, Logged, clause_of, State, clauses_of, start, Outcome, more, done, came_to, run, not_false, act_on, goal_act, logged_act, next_act}
+use Rattle.definitions.specs.Search.{Trail, is_true, is_false, is_unset, Logged, clause_of, State, clauses_of, not_false, act_on, goal_act, logged_act, next_act}
 use Rattle.definitions.specs.ClauseNumbers.{clause_numbers, may_act, next_act_among}
 use Rattle.theory.specs.Tests.{by-test, by-option, apart}
 use Rattle.theory.specs.ListLaws.{any_some, first_some-filter, Each, each_append}
 use Rattle.theory.specs.WordLaws.{goal-of}
 use Rattle.theory.specs.SearchLaws.{Consistent, not_false-of}
-use Rattle.theory.specs.Steps.{After, run-keeps}
-use Rattle.theory.specs.Answers.{Inv, InvTells, start-inv}
-use Rattle.theory.specs.Choices.{choice_world, inv-step}
 use Rattle.theory.specs.Unknown.{consistent}
 use Rattle.theory.specs.Limits.{Searchable}
 use Rattle.theory.specs.Invariants.{Sound}
@@ -50,7 +47,7 @@ module _ (t : Trail) (consistent : Consistent t) where
           cc
       cases (x ∷ y ∷ ls) e = refl
 
-asking-enough : (k : Task) (s : State) → Consistent s.trail → next_act_among (λ (c : Clause). may_act (clause_numbers s.trail c)) k s ≡ next_act k s
+pub asking-enough : (k : Task) (s : State) → Consistent s.trail → next_act_among (λ (c : Clause). may_act (clause_numbers s.trail c)) k s ≡ next_act k s
 unfolding next_act_among next_act goal_act logged_act
 asking-enough k s consistent =
     let asks : Clause → Bool = λ c. may_act (clause_numbers s.trail c) in
@@ -71,17 +68,3 @@ clauses-short p limits s sound =
     (λ c m. let (g, n, q) = Memᴰ.of_map clause_of s.log m in
     subst (λ c. (length c ≤ 8) × ((l : Literal) → l ∈ c → l.atom ∈ s.table)) q
     (omega (arith, clause-length g, instance-heads p limits g.instance (sound.inv.log_ok g n).its), sound.fits.written g n))
-
--- ── after every step of a search, and where it ends ──
-
-pub search-asking : (k : Task) (budget n : ℕ)
-    → next_act_among (λ (c : Clause). may_act (clause_numbers (came_to (run k budget n (start k))).trail c)) k (came_to (run k budget n (start k)))
-    ≡ next_act k (came_to (run k budget n (start k)))
-search-asking k budget n =
-    on (run k budget n (start k))
-    (run-keeps k budget (Inv k (choice_world k)) (InvTells k (choice_world k)) (inv-step k budget) n (start k) (start-inv k (choice_world k)))
-  where
-    on : (o : Outcome) → After (Inv k (choice_world k)) (InvTells k (choice_world k)) o
-        → next_act_among (λ (c : Clause). may_act (clause_numbers (came_to o).trail c)) k (came_to o) ≡ next_act k (came_to o)
-    on (more s) v = unfold came_to in asking-enough k s (consistent k v.trailed)
-    on (done w s) v = unfold came_to in asking-enough k s (consistent k v.0.trailed)

@@ -1,6 +1,6 @@
--- Where the search of an accepted sheet ends, the listing has at most 44,841 bytes and every number fits its column: symbols,
--- constants and rule numbers keep the limits of the sheet. Assumes nothing.
-use Rattle.std.specs.Prelude.{ℕ, ◌-◌, ◌^◌, ◌≤◌, ◌<◌, ◌≡◌, refl, ◌++◌, map}
+-- Symbols, constants and rule numbers in instances and in the table of a search keep the limits of the sheet, so what they make can be
+-- listed. Assumes nothing.
+use Rattle.std.specs.Prelude.{ℕ, ◌-◌, ◌≤◌, ◌≡◌, refl, ◌++◌, map}
 use Rattle.std.proofs.Common.{sym, ◌∙◌, arith, eq-eqb}
 use Rattle.std.proofs.Math.Path.{ap, subst}
 use Rattle.std.proofs.Math.Logic.{inl, inr}
@@ -8,21 +8,17 @@ use mathlib.Core.List.Memᴰ
 use Rattle.std.proofs.lemmas.List.{map-append}
 use Rattle.std.proofs.Math.ListN.{length, length-map}
 use Rattle.definitions.specs.Lists.{◌∈◌, up_from}
-use Rattle.definitions.specs.Words.{Literal, plain, Term, variable, constant, Pattern, Rule, Problem, goal_atoms}
-use Rattle.definitions.specs.Instances.{Substitution, term_value, ground, is_variable, occurs_in, variables, substitutions, Instance, fill, task_of}
-use Rattle.definitions.specs.Search.{is_false, Logged, clause_of, State, done, search}
+use Rattle.definitions.specs.Words.{Literal, Term, variable, constant, Pattern, Rule, Problem}
+use Rattle.definitions.specs.Instances.{Substitution, term_value, ground, is_variable, occurs_in, variables, substitutions, Instance, task_of}
+use Rattle.definitions.specs.Search.{State, done, search}
 use Rattle.definitions.specs.declared.Verdict.{Verdict}
 use Rattle.theory.specs.ListLaws.{any_of, filter-of, Each, each_append}
 use Rattle.theory.specs.PlaceLaws.{in-up_from}
-use Rattle.theory.specs.WordLaws.{negate-atom, goal-from}
-use Rattle.theory.specs.SearchLaws.{clause-cases}
+use Rattle.theory.specs.WordLaws.{goal-from}
 use Rattle.theory.specs.InstanceLaws.{substitution-sound, only-fillings, filled-rule, filled-heads, filled-body}
-use Rattle.theory.specs.Counts.{decisions-within-budget, conflicts-at-most-decisions-plus-1, limits-kept}
 use Rattle.theory.specs.Sources.{search-sourced}
-use Rattle.theory.specs.Unknown.{consistent}
-use Rattle.theory.specs.Choices.{search-tells, logged-ok}
 use Rattle.theory.specs.Limits.{TermLimits, PatternLimits, LiteralLimits, Within, Limits, arity-limit, Between}
-use Rattle.theory.specs.ListingLaws.{AtomListable, LoggedListable, Listable}
+use Rattle.theory.specs.ListingLaws.{AtomListable}
 
 -- an instance has its rule's heads
 pub instance-heads : {rule_limit clause_limit : ℕ} (p : Problem) → Within rule_limit clause_limit p → (i : Instance) → i ∈ (task_of p).instances → length i.heads ≤ 3
@@ -64,7 +60,7 @@ module _ (p : Problem) (limits : Limits p) where
       }
 
   -- the literals of an instance keep the limits
-  instance-limits : (i : Instance) → i ∈ (task_of p).instances → Each (LiteralLimits p) (i.heads ++ i.body)
+  pub instance-limits : (i : Instance) → i ∈ (task_of p).instances → Each (LiteralLimits p) (i.heads ++ i.body)
   instance-limits i m l n =
       let f = only-fillings p i m in
       let r = limits.each_rule f.rule (filled-rule f).1 in
@@ -76,35 +72,13 @@ module _ (p : Problem) (limits : Limits p) where
       filled-limits p f.rule f.filling f.inside x j (each_append (PatternLimits p) f.rule.heads r.each_head r.each_body x j))
 
   -- the limits are of a literal's atom
-  same-limits : (l m : Literal) → l.atom ≡ m.atom → LiteralLimits p l → LiteralLimits p m
+  pub same-limits : (l m : Literal) → l.atom ≡ m.atom → LiteralLimits p l → LiteralLimits p m
   same-limits l m e w =
       record { symbol = rw (← e) w.symbol; declared = rw (← e) w.declared; args = rw (← e) w.args; in_range = rw (← e) w.in_range }
 
   -- where a search ends, with whatever budget
   module _ (budget : ℕ) (v : Verdict) (s : State) (e : search p budget ≡ done v s) where
-    -- the literals of a logged clause keep the limits
-    pub logged-limits : (g : Logged) → g ∈ s.log → Each (LiteralLimits p) (clause_of g)
-    logged-limits g m l n =
-        let ok = logged-ok p budget v s e g m in
-        let each = instance-limits g.instance ok.its in
-        elim (clause-cases g l n) [
-          | inl r ↦ same-limits r.0 l (sym (ap (λ (x : Literal). x.atom) r.2 ∙ negate-atom r.0)) (each r.0 (Memᴰ.append_left g.instance.body r.1))
-          | inr q ↦ each l (Memᴰ.append_right g.instance.heads (ok.taken l q))
-        ]
-
-    -- so each of them can be listed
-    pub logged-listable : (g : Logged) → g ∈ s.log → LoggedListable g
-    unfolding fill
-    logged-listable g m =
-        let its = (logged-ok p budget v s e g m).its in
-        let f = only-fillings p g.instance its in
-        record {
-          rule = omega (arith, ap (λ (x : Instance). x.rule) f.made, (filled-rule f).0, limits.rules);
-          heads = instance-heads p limits g.instance its;
-          literal = λ l n. literal-listable l (logged-limits g m l n);
-        }
-
-    -- the literals of the table's atoms keep them too: each atom is from a goal clause or from the body of an instance
+    -- the literals of the table's atoms keep the limits: each atom is from a goal clause or from the body of an instance
     pub table-limits : (l : Literal) → l.atom ∈ s.table → LiteralLimits p l
     unfolding search task_of
     table-limits l m =
@@ -114,22 +88,3 @@ module _ (p : Problem) (limits : Limits p) where
           | inr b ↦ let inside = Memᴰ.append_right b.instance.heads b.inside in
               same-limits b.literal l (sym b.atom) (instance-limits b.instance b.its b.literal inside)
         ]
-
-  -- every state in which a search ends can be listed
-  pub search-listable : (budget : ℕ) → budget < 2 ^ 32 → (v : Verdict) (s : State) → search p budget ≡ done v s → Listable s
-  unfolding search task_of is_false plain
-  search-listable budget h v s e =
-      let (table_size, log_size) = limits-kept (task_of p) budget v s few e in
-      let decided = decisions-within-budget (task_of p) budget v s e in
-      record {
-        table = table_size;
-        log = log_size;
-        decisions = omega arith;
-        conflicts = omega (arith, conflicts-at-most-decisions-plus-1 (task_of p) budget v s e);
-        atoms = λ a m. literal-listable (plain a) (table-limits budget v s e (plain a) m);
-        clauses = logged-listable budget v s e;
-        settled = λ a m. consistent (task_of p) (search-tells (task_of p) budget v s e).0.trailed (plain a);
-      }
-    where
-      few : length (goal_atoms p.clauses) ≤ 256
-      few = omega (arith, limits.goals)

@@ -1,20 +1,15 @@
 -- What a literal is as a value, by the trail, and that the literal test finds it: in every state of a search the product of sign and
 -- state tells true, false and unset apart. Assumes nothing.
-use Rattle.std.specs.Prelude.{ℕ, ◌≡◌, true, false, ℤ, pos, negsuc, ◌*ℤ◌}
+use Rattle.std.specs.Prelude.{◌≡◌, true, false, ℤ, pos, negsuc, ◌*ℤ◌}
 use Rattle.std.proofs.Math.Path.{sym, ap}
 use Rattle.std.proofs.Common.{◌∙◌}
 use Rattle.std.proofs.Math.IntN.{neg_ℤ, one, *ℤ-one, *ℤ-negsuc, *ℤ_comm}
 use Rattle.definitions.specs.Words.{Literal, negate, plain}
-use Rattle.definitions.specs.Instances.{Task}
-use Rattle.definitions.specs.Search.{Trail, is_true, is_false, is_unset, start, Outcome, more, done, came_to, run}
+use Rattle.definitions.specs.Search.{Trail, is_true, is_false, is_unset}
 use Rattle.definitions.specs.LiteralTest.{unset_value, true_value, false_value, truth, atom_state, literal_sign, literal_test, TellsApart}
 use Rattle.theory.specs.Tests.{by-test, apart, true-and-false}
 use Rattle.theory.specs.WordLaws.{as_plain, as-negated}
 use Rattle.theory.specs.SearchLaws.{Consistent, unset-not-true, unset-not-false, unset-of, unset-negate, negated-false}
-use Rattle.theory.specs.Steps.{After, run-keeps}
-use Rattle.theory.specs.Answers.{Inv, InvTells, start-inv}
-use Rattle.theory.specs.Choices.{choice_world, inv-step}
-use Rattle.theory.specs.Unknown.{consistent}
 
 -- ── truth ──
 
@@ -90,13 +85,3 @@ tells-apart t clean l =
       when_false = (λ f. apart (cc), λ f. true-and-false f q);
       when-unset = (λ _. u, λ _. e);
     })
-
--- so it does after every step of a search, and where it ends
-pub search-tells-apart : (k : Task) (budget n : ℕ) (l : Literal) → TellsApart (came_to (run k budget n (start k))).trail l
-search-tells-apart k budget n =
-    on (run k budget n (start k))
-    (run-keeps k budget (Inv k (choice_world k)) (InvTells k (choice_world k)) (inv-step k budget) n (start k) (start-inv k (choice_world k)))
-  where
-    on : (o : Outcome) → After (Inv k (choice_world k)) (InvTells k (choice_world k)) o → (l : Literal) → TellsApart (came_to o).trail l
-    on (more s) v = unfold came_to in tells-apart s.trail (consistent k v.trailed)
-    on (done w s) v = unfold came_to in tells-apart s.trail (consistent k v.0.trailed)

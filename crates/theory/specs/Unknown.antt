@@ -1,6 +1,6 @@
--- What UNKNOWN tells: the setting of the goal atoms is the first choice that fails in neither way, and what is true is its
--- closure. Assumes nothing.
-use Rattle.std.specs.Prelude.{ℕ, ◌≡◌, ◌⊎◌, true, false, ◌∷◌}
+-- Where the search is left with no step: the setting of the goal atoms fails in neither way, each earlier choice fails, and what is in the
+-- setting's closure is true. Assumes nothing.
+use Rattle.std.specs.Prelude.{◌≡◌, ◌⊎◌, true, false, ◌∷◌}
 use Rattle.std.proofs.Common.{sym, ap, subst, ◌∙◌}
 use Rattle.std.proofs.Math.Logic.{inl, inr}
 use Rattle.std.proofs.Math.Bool.{false≢true}
@@ -10,15 +10,14 @@ use Rattle.definitions.specs.Lists.{◌∈◌, any}
 use Rattle.definitions.specs.Words.{Atom, Literal, negate, plain, goal_atoms}
 use Rattle.definitions.specs.Instances.{Task}
 use Rattle.definitions.specs.Meaning.{Choice, Makes, Closure, chosen, derived, both_signs, false_body, Breaks, Fails, Earlier}
-use Rattle.definitions.specs.Search.{decided, Entry, Trail, is_true, is_false, is_unset, State, is_goal, next_act, next_instance, next_goal, done, search_task}
-use Rattle.definitions.specs.Verdicts.{setting, FirstChoice}
-use Rattle.definitions.specs.declared.Verdict.TheVariants.{Unknown}
+use Rattle.definitions.specs.Search.{decided, Entry, Trail, is_true, is_false, is_unset, State, is_goal, next_act, next_instance, next_goal}
+use Rattle.definitions.specs.Verdicts.{setting}
 use Rattle.theory.specs.Tests.{by-test, true-and-false, none≢some}
 use Rattle.theory.specs.ListLaws.{at_split, in-along, splits}
 use Rattle.theory.specs.WordLaws.{negate-negate, negate-atom, negate-differs, as_plain, as-negated, goal-of}
-use Rattle.theory.specs.SearchLaws.{Consistent, true-at, entry-true, true-cases, unset-not-true, unset-not-false, unset-negate, set_cases, set_more, false-conflict, goal-quiet, rests-true, goals-set}
-use Rattle.theory.specs.Trail.{Gave, Decision, decision-goal, Consequence, Agrees, Ok, bare, next}
-use Rattle.theory.specs.Choices.{choice_world, search-tells}
+use Rattle.theory.specs.SearchLaws.{Consistent, entry-true, true-cases, unset-not-true, unset-not-false, unset-negate, set_cases, set_more, false-conflict, goal-quiet, rests-true, goals-set}
+use Rattle.theory.specs.Trail.{Decision, decision-goal, Consequence, Agrees, Ok, bare, next}
+use Rattle.theory.specs.Choices.{choice_world}
 
 -- what is true is what the setting makes, where no atom has both signs
 pub true-makes : (t : Trail) → Consistent t → (l : Literal) → is_true t l ≡ true → Makes (setting t) l
@@ -91,38 +90,10 @@ module _ (k : Task) where
       latest q (inl c) = subst (Decision k (d ∷ t)) (sym q) (later d c)
       latest q (inr c) = absurd (c.isnt (sym (ap (λ (x : Entry). x.why) q) ∙ w))
 
-  module _ (t : Trail) (o : Ok k (choice_world k) t) where
-    -- what is true is in the closure of the setting: a goal atom's literal is chosen, a created one's was given by an instance
-    entry-closure : {u : Trail} → Ok k (choice_world k) u → ((e : Entry) → e ∈ u → e ∈ t) → (e : Entry) → e ∈ u → Closure k (setting t) e.literal
-    entry-closure bare w e m = absurd (Memᴰ.not-nil m)
-    entry-closure (next {e = d} {t = u} f r ok) w e m =
-        elim (Memᴰ.cases_cons m) [
-          | inl q ↦ latest q r (λ x n. entry-closure ok (λ y j. w y (Memᴰ.tail j)) x n)
-          | inr n ↦ entry-closure ok (λ y j. w y (Memᴰ.tail j)) e n
-        ]
-      where
-        goal : e.literal.atom ∈ goal_atoms k.clauses → Closure k (setting t) e.literal
-        goal a = chosen a (true-makes t (consistent o) e.literal (entry-true t e (w e m)))
-
-        given : ((x : Entry) → x ∈ u → Closure k (setting t) x.literal) → (l : Literal) → Gave k u l → Closure k (setting t) l
-        given rec l g =
-            derived g.instance g.its (λ h n. let p = true-at u h (g.heads h n) in subst (Closure k (setting t)) p.its (rec p.entry p.inside)) g.inside
-
-        from : ((x : Entry) → x ∈ u → Closure k (setting t) x.literal) → e ≡ d → (d.literal.atom ∈ goal_atoms k.clauses) ⊎ Gave k u d.literal → Closure k (setting t) e.literal
-        from rec q (inl a) = goal (subst (λ (x : Entry). x.literal.atom ∈ goal_atoms k.clauses) (sym q) a)
-        from rec q (inr g) = subst (λ (x : Entry). Closure k (setting t) x.literal) (sym q) (given rec d.literal g)
-
-        latest : e ≡ d → Decision k u d ⊎ Consequence k (choice_world k) u d → ((x : Entry) → x ∈ u → Closure k (setting t) x.literal) → Closure k (setting t) e.literal
-        latest q (inl c) rec = from rec q (inl (decision-goal k u d c))
-        latest q (inr c) rec = from rec q c.source
-
-    true-closure : (l : Literal) → is_true t l ≡ true → Closure k (setting t) l
-    true-closure l h = let p = true-at t l h in subst (Closure k (setting t)) p.its (entry-closure o (λ e m. m) p.entry p.inside)
-
   -- ── no step is left ──
 
   module _ (s : State) (o : Ok k (choice_world k) s.trail) (a : next_act k s ≡ none) (b : next_instance k s ≡ none) (c : next_goal k s ≡ none) where
-    closure-true : (l : Literal) → Closure k (setting s.trail) l → is_true s.trail l ≡ true
+    pub closure-true : (l : Literal) → Closure k (setting s.trail) l → is_true s.trail l ≡ true
     closure-true l (chosen m y) = makes-true s.trail l (goals-set k s c l.atom m) y
     closure-true l (derived i m hs n) = (rests-true k s b i m (λ h j. closure-true h (hs h j))).1 l n
 
@@ -134,7 +105,7 @@ module _ (k : Task) where
         (subst (λ (x : Atom). is_unset s.trail (plain x) ≡ false) (sym (negate-atom l)) (goals-set k s c l.atom (goal-of k.clauses f.clause l f.inside m)))
         (f.all_false l m)
 
-    fails-in-neither : Fails k (setting s.trail) → ⊥
+    pub fails-in-neither : Fails k (setting s.trail) → ⊥
     unfolding is_false
     fails-in-neither (inl f) =
         none≢some (sym (goal-quiet k s a f.clause f.inside) ∙ false-conflict s.trail (is_goal k) f.clause (broken-acts f))
@@ -143,7 +114,7 @@ module _ (k : Task) where
 
     -- an earlier choice has true where the setting has false; the setting's literal there is no decision, and it was forced
     -- by decisions that the earlier choice shares
-    earlier-fails : (τ : Choice) → Earlier k τ (setting s.trail) → Fails k τ
+    pub earlier-fails : (τ : Choice) → Earlier k τ (setting s.trail) → Fails k τ
     unfolding setting is_false
     earlier-fails τ y =
         elim (set_cases s.trail (plain y.at) (goals-set k s c y.at goal)) [
@@ -180,11 +151,3 @@ module _ (k : Task) where
                   | inl n ↦ inr (both_signs (plain y.at) (unfold plain in chosen goal y.earlier) n)
                   | inr f ↦ f
                 ]
-
-    first-choice : FirstChoice k s.trail
-    first-choice =
-        record { set = goals-set k s c; neither = fails-in-neither; earlier = earlier-fails; sound = true-closure s.trail o; complete = closure-true }
-
-  -- UNKNOWN: the setting is the first choice that does neither, and what is true is its closure
-  pub unknown-means : (budget : ℕ) (s : State) → search_task k budget ≡ done Unknown s → FirstChoice k s.trail
-  unknown-means budget s e = let (inv, (a, b, c)) = search-tells k budget Unknown s e in first-choice s inv.trailed a b c

@@ -1,3 +1,5 @@
 pub mod AwakeTurns
 pub mod CandidateTurns
 pub mod WalkTurns
+pub mod MaskedWalkLaws
+pub mod WalkStands

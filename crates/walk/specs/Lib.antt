@@ -7,5 +7,4 @@ pub mod MaskedWalk
 pub mod Pruned
 pub mod Numbered
 pub mod CandidateLaws
-pub mod MaskedWalkLaws
 pub mod WalkStands

@@ -4,10 +4,11 @@ use Rattle.std.specs.Prelude.{ℕ, List}
 use Rattle.definitions.specs.Meaning.{Assignment, Satisfies}
 use Rattle.definitions.specs.Sheets.{Accepted, Answers, Keeps}
 use Rattle.definitions.specs.declared.Verdict.TheVariants.{Unsat, Unknown}
-use Rattle.theory.specs.Larger.{Includes, larger-never-unknown, larger-unsatisfiable}
+use Rattle.theory.specs.Larger.{Includes}
 use Rattle.theory.specs.Limits.{accepted-from-lines}
 use Rattle.theory.specs.Inclusion.{keeps-includes}
 use Rattle.theory.specs.CallAnswers.{answer-from-search, its-search}
+use Rattle.theory.proofs.Larger.{larger-never-unknown, larger-unsatisfiable}
 
 -- a sheet that some call answers UNSAT, and a second accepted sheet that keeps it
 module _ (first second : List ℕ) (budget : ℕ) (room : List ℕ) (unsat : Answers first budget room Unsat) (accepts : Accepted second) (keeps : Keeps first second) where

@@ -26,7 +26,8 @@ use Rattle.theory.specs.AskedLaws.{yes-bind, yes-ask}
 use Rattle.theory.specs.Limits.{LiteralLimits, Limits, Between, within-plus}
 use Rattle.theory.specs.ListingLaws.{clause-length, logged-fit, set-fit, settings-in}
 use Rattle.theory.specs.ColumnsRead.{NotMinusZero, plus-not-minus-zero, listed_row, rows-listed, row_read, other-kind}
-use Rattle.theory.specs.Sizes.{literal-listable, logged-limits, logged-listable, table-limits}
+use Rattle.theory.specs.Sizes.{literal-listable, table-limits}
+use Rattle.theory.proofs.Sizes.{logged-limits, logged-listable}
 
 -- ── a clause in columns ──
 

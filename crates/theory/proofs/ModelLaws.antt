@@ -30,12 +30,13 @@ use Rattle.theory.specs.TwoWayLaws.{implies-filling, rules-equivalence, FromLine
 use Rattle.theory.specs.SearchLaws.{Consistent, true-at, is_goal-in}
 use Rattle.theory.specs.Unknown.{true-makes, makes-true}
 use Rattle.theory.specs.Limits.{Limits, accepted-limits, accepted-from-lines}
-use Rattle.theory.specs.Invariants.{search-sound}
+use Rattle.theory.proofs.Invariants.{search-sound}
 use Rattle.theory.specs.ListingLaws.{settings-in, in-settings, answer-listed, listing_begins}
-use Rattle.theory.specs.ListedClauses.{settings-listed}
-use Rattle.theory.specs.Theorems.{search-comes-to-an-answer, unknown}
+use Rattle.theory.proofs.ListedClauses.{settings-listed}
+use Rattle.theory.specs.Theorems.{search-comes-to-an-answer}
 use Rattle.theory.specs.CallLaws.{large-room, printed-listing}
 use Rattle.theory.specs.CallAnswers.{answer-from-search, its-search}
+use Rattle.theory.proofs.Theorems.{unknown}
 
 -- ── a setting that makes no heads true but those that are ──
 

@@ -21,7 +21,8 @@ use Rattle.theory.specs.Tests.{by-test}
 use Rattle.theory.specs.ListLaws.{joined-append, joined_length, Each}
 use Rattle.theory.specs.WordLaws.{goal-of}
 use Rattle.theory.specs.TableLaws.{position-inside, position-append}
-use Rattle.theory.specs.Invariants.{Sound, search-sound}
+use Rattle.theory.specs.Invariants.{Sound}
+use Rattle.theory.proofs.Invariants.{search-sound}
 use Rattle.theory.specs.Limits.{Limits, limits-searchable, accepted-limits}
 use Rattle.theory.specs.ListingLaws.{decimals-length, clause-length}
 use Rattle.theory.specs.Sizes.{instance-heads}

@@ -1,0 +1,3 @@
+pub mod Supposed
+pub mod RefusedLineTrials
+pub mod ModelTrials

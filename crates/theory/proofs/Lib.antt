@@ -1,0 +1,16 @@
+pub mod Trail
+pub mod Answers
+pub mod Choices
+pub mod Unknown
+pub mod TruthLaws
+pub mod Larger
+pub mod Invariants
+pub mod Sizes
+pub mod ListedClauses
+pub mod NumberLaws
+pub mod Theorems
+pub mod Exports
+pub mod ExportLaws
+pub mod Demand3
+pub mod CarriedLaws
+pub mod ModelLaws
