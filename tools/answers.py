@@ -43,7 +43,7 @@ def read_clauses():
                 elif m[2]:
                     path = "::".join([crate, *module, *([inside] if inside else []), m[2]])
                     CLAUSES[path] = ([], [])
-                    WHOLE[path] = re.findall(r"let _whole: [^=]*= (?:&)?(\w+);", text[m.start():].split("\n}", 1)[0])
+                    WHOLE[path] = re.findall(r"let (_\w+): [^=]*= (?:&)?(\w+);", text[m.start():].split("\n}", 1)[0])
                 elif m[3]:
                     CLAUSES[path][m[3] == "ensures"].append(m[4])
                 else:
@@ -175,8 +175,9 @@ def finished(text, f):
     text = re.sub(r"(\.(?:[\w-]+-test|if-[\w-]+))\.left\b", r"\1.false", text)
     text = re.sub(r"\.inv\b", ".invariant", text)
     # the length of an array that is read as a slice
-    if len(f.whole) == 1:
-        text = re.sub(r"\bc\._whole(-\d+)?-1\.given\.0", f"c.told-{f.whole[0]}", text)
+    for name, array in f.whole:
+        if len([n for n, _a in f.whole if n == name]) == 1:
+            text = re.sub(rf"\bc\.{name}(-\d+)?-1\.given\.0", f"c.told-{array}", text)
     # a test of a negation tells what it negates
     text = re.sub(r"not-(true|false) _ (\w+\.if-not-[\w-]+\.(?:true|false))", r"\2", text)
     text = re.sub(r"\(ap not (\(.*?\)|[\w.-]+) ∙ (\w+\.if-not-[\w-]+\.(?:true|false))\)", r"(ap not (\1 ∙ \2))", text)
