@@ -1,5 +1,7 @@
 // A sheet that is lent rooms large enough: read and searched, listed, and, where that is wanted, its clauses written as DIMACS CNF.
 // The calls above ask about what is lent. They share one function, so that the search is there once in a program.
+#![tactic(auto)]
+
 ghost use Rattle.std.specs.Prelude.{ℕ, ◌≤◌, ◌≡◌, true, [], length};
 ghost use Rattle.definitions.specs.Bounds.{room_bytes, export_bytes};
 ghost use Rattle.definitions.specs.Words.{Problem};

@@ -1,4 +1,6 @@
 // Words as sets of small numbers, of 32 bits here.
+#![tactic(auto)]
+
 pub mod long; // long.rt: words of 64 bits
 
 ghost use Rattle.std.specs.Prelude.{◌≡◌, ◌-◌, ◌^◌, ◌<◌};

@@ -7,7 +7,7 @@ use lib.ListN.{length, drop, replicate}
 use Rattle.definitions.specs.Lists.{is_empty}
 use Rattle.definitions.specs.Bounds.{most_literals}
 use Rattle.definitions.specs.Sheet.{Number}
-use Rattle.definitions.specs.Questions.{Asked, yes, ◌>>=◌, ◌>>◌}
+use Rattle.definitions.specs.Questions.{Asked, yes, ◌>>=◌}
 use Rattle.definitions.specs.Dimacs.{clause_line_at, clauses_at, header_at, read_cnf}
 use Rattle.theory.specs.Tests.{true-and-false}
 use Rattle.theory.specs.AskedLaws.{by-asked, bind-yes, ask-yes, yes-injective}

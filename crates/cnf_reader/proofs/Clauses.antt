@@ -11,7 +11,7 @@ use Rattle.definitions.specs.Lists.{is_empty, joined}
 use Rattle.definitions.specs.Bounds.{most_literals}
 use Rattle.definitions.specs.Sheet.{Number}
 use Rattle.definitions.specs.Questions.{Asked, no, yes, ◌>>=◌, ◌>>◌, ask}
-use Rattle.definitions.specs.Dimacs.{Front, front, clause_line_at, clauses_at}
+use Rattle.definitions.specs.Dimacs.{Front, clause_line_at, clauses_at}
 use Rattle.theory.specs.Tests.{by-test, apart}
 use Rattle.theory.specs.AskedLaws.{by-asked}
 use Rattle.column.specs.Sets.{sets-append}

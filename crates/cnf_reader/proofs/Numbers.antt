@@ -9,7 +9,7 @@ use lib.ListN.{drop}
 use borrow.Author.Tests.{le-leb, lt-leb}
 use Rattle.definitions.specs.Bounds.{most_atoms, most_exported}
 use Rattle.definitions.specs.Text.{bytes}
-use Rattle.definitions.specs.Questions.{Asked, no, yes, ◌>>=◌, ◌>>◌, ask}
+use Rattle.definitions.specs.Questions.{Asked, yes, ◌>>=◌, ◌>>◌, ask}
 use Rattle.definitions.specs.Dimacs.{Front, front, expect, expects, decimal_at, Header, header_at}
 use Rattle.theory.specs.Tests.{and_intro}
 use Rattle.theory.specs.AskedLaws.{by-asked}

@@ -1,4 +1,6 @@
 // Clauses from a text in DIMACS CNF, by value.
+#![tactic(auto)]
+
 mod parts; // parts.rt: bytes, decimals and the header
 mod clause_lines; // clause_lines.rt: literals and clause lines
 

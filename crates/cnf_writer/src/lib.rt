@@ -1,5 +1,7 @@
 // The clauses of a search that has ended as DIMACS CNF, at the front of a lent room.
 // Each function puts its bytes from a place on and hands back the place behind them.
+#![tactic(auto)]
+
 ghost use Rattle.std.specs.Prelude.{◌+◌, ◌-◌, ◌≤◌, ◌<◌, ◌≡◌, [], ◌∷◌, length, get_or, take, drop};
 ghost use Rattle.definitions.specs.Lists.{joined, up_from};
 ghost use Rattle.definitions.specs.Listing.{decimals, signed_decimals};

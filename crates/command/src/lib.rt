@@ -1,4 +1,6 @@
 // What the command is to do, by the words behind its name.
+#![tactic(auto)]
+
 ghost use Rattle.std.specs.Prelude.{◌≡◌, false, List, [], ◌∷◌, map, ℕ, length, take};
 ghost use Rattle.definitions.specs.Sheet.{natural};
 ghost use Rattle.definitions.specs.Command.{same_word, in_range, numeral, printed_by, budgeted, order};

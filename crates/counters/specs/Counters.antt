@@ -2,7 +2,7 @@
 -- false and how many are true, which clauses hold a literal, and which clauses ask. Assumes nothing.
 use Rattle.std.specs.Prelude.{ℕ, ◌+◌, ◌*◌, ◌/◌, ◌%◌, Bool, true, false, ◌&&◌, List, map, eqb, leb, ltb, length, get_or}
 use denote.Triple.Both.{Both}
-use Rattle.bits.specs.Bits.{has, packed, among}
+use Rattle.bits.specs.Bits.{has, packed}
 use Rattle.definitions.specs.Lists.{any, filter, distinct, up_from}
 use Rattle.definitions.specs.ClauseNumbers.{Numbers}
 use Rattle.std.proofs.Common.{Bor}

@@ -1,5 +1,7 @@
 // Counters of clauses, so that step A reads only clauses that ask for something: which clauses hold a literal, as rows of bits; for each
 // clause how many of its different literals are not false, and 256 for each that is true; and the clauses that ask, as bits.
+#![tactic(auto)]
+
 pub mod asking; // asking.rt: step A over the clauses that ask
 pub mod entering; // entering.rt: a new clause
 pub mod kept; // kept.rt: setting and undoing

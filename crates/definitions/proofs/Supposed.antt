@@ -1,10 +1,10 @@
 -- Examples of what the promises suppose: an accepted sheet with an assignment that satisfies it and a choice that is earlier than another, a
 -- sheet that each call answers UNSAT with a second one that keeps it, sheets that are filled alike, and numbers that satisfy a text's clauses.
 -- Assumes nothing.
-use Rattle.std.specs.Prelude.{ℕ, ◌≡◌, refl, Bool, true, false, not, eqb, length, replicate}
+use Rattle.std.specs.Prelude.{ℕ, ◌≡◌, refl, true, not, eqb, length, replicate}
 use Rattle.std.proofs.Common.{inl, inr, arith}
 use mathlib.Core.List.Memᴰ
-use mathlib.Core.List.{List, [], ◌∷◌, ◌++◌, cons≢nil}
+use mathlib.Core.List.{List, [], ◌∷◌, cons≢nil}
 use Rattle.definitions.specs.Lists.{◌∈◌, lists_all}
 use Rattle.definitions.specs.Bounds.{room_bytes, export_bytes}
 use Rattle.definitions.specs.Words.{RuleLine, words_all}
@@ -18,7 +18,7 @@ use Rattle.definitions.specs.Text.{text, text_all}
 use Rattle.definitions.specs.Call.{call_all}
 use Rattle.definitions.specs.Export.{export_all}
 use Rattle.definitions.specs.Sheets.{Accepted, Answers, hands_back, lists, prints, export_hands_back, Keeps, FilledAlike, sheets_all}
-use Rattle.definitions.specs.Carried.{NumberAssignment, SatisfiesNumberClauses}
+use Rattle.definitions.specs.Carried.{SatisfiesNumberClauses}
 use Rattle.definitions.specs.declared.Verdict.TheVariants.{Unsat}
 
 -- ── an accepted sheet ──

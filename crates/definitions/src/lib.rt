@@ -1,6 +1,7 @@
 // The answer of a call, as document 01 names it: an answer that carries its own record. And what the command does.
 // What the parts mean stands in specs/: `Call` says which answer a call hands back, and gives
 // document 01's number and values for each case; `Command` says what the command does with its words.
+#![tactic(auto)]
 
 // Which question was answered no, and at which line: 0 where it is asked of the call.
 #[derive(Drop)]

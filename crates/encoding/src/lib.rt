@@ -1,4 +1,6 @@
 // How a problem and a search stand in arrays: what several crates read and write alike.
+#![tactic(auto)]
+
 pub mod slots; // slots.rt: the code of a literal's atom, and the terms of slots
 pub mod values; // values.rt: the values of literals
 

@@ -1,5 +1,7 @@
 // The listing at the front of a lent room: lines of kind 5, 6 and 7.
 // Each function puts its bytes from a place on and hands back the place behind them.
+#![tactic(auto)]
+
 ghost use Rattle.std.specs.Prelude.{ℕ, ◌+◌, ◌-◌, ◌≤◌, ◌<◌, ◌≡◌, true, [], ◌∷◌, map, length, get_or, take, drop};
 ghost use Rattle.encoding.specs.Lengths.{literal_array};
 ghost use Rattle.definitions.specs.Lists.{joined, up_from};

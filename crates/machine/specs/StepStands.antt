@@ -6,7 +6,7 @@ use Rattle.std.proofs.Math.Path.{refl, sym, ap, subst}
 use Rattle.std.proofs.Common.{◌∙◌, length-set}
 use Rattle.std.proofs.Math.Option.{Option, none, some}
 use native.Mathlib.Omega.{arith}
-use Rattle.std.proofs.Math.ListN.{length, set, take, length-append}
+use Rattle.std.proofs.Math.ListN.{length, take, length-append}
 use borrow.Author.Tests.{ltb-true, ltb-false, eq-eqb, ne_eqb, le-leb, lt-leb}
 use Rattle.definitions.specs.Lists.{◌∈◌, joined}
 use Rattle.definitions.specs.Words.{Atom, Literal, plain, Problem, goal_atoms, position}

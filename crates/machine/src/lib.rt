@@ -1,5 +1,7 @@
 // What the search carries beside its arrays, and what it comes to. That the machine, the search over arrays as lists, stands for the
 // definitions' search is shown in specs.
+#![tactic(auto)]
+
 use definitions::Verdict;
 
 // How much of the arrays is in use, and both counts. There may be one conflict more than a 32-bit number holds.

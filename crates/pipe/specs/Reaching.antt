@@ -5,7 +5,6 @@ use Rattle.encoding.specs.Values.{Values}
 use Rattle.machine.specs.Finished.{AtEnd}
 use Rattle.machine.specs.declared.Ended.{Ended}
 use Rattle.pipe.specs.declared.Reached.{Reached}
-use Rattle.pipe.specs.declared.Reached.TheVariants as Reached
 
 -- the refusal, or what the search of the problem came to, with the arrays that stand for it
 abbrev pub ReachedAs : Reading → ℕ → Reached → List ℕ → List ℕ → List ℕ → List ℕ → List ℕ → Values → Type 0

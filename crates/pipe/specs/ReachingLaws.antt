@@ -18,7 +18,6 @@ use Rattle.encoding.specs.Encoding.{atom_code, clause_words, starts_from, Arrays
 use Rattle.encoding.specs.declared.Sizes.{Sizes}
 use Rattle.sheet.specs.LineHolds.{SheetRead}
 use Rattle.sheet.specs.declared.Read.{Read}
-use Rattle.sheet.specs.declared.Read.TheVariants as Read
 use Rattle.clause_log.specs.StoreLaws.{sets-start-at}
 use Rattle.machine.specs.Machine.{Machine, machine, EndStands, Lengths, Loaded}
 use Rattle.machine.specs.Loading.{held_machine, accepted-loaded}
@@ -26,7 +25,6 @@ use Rattle.machine.specs.Finished.{AtEnd, at-end}
 use Rattle.machine.specs.declared.Ended.{Ended}
 use Rattle.pipe.specs.Reaching.{ReachedAs}
 use Rattle.pipe.specs.declared.Reached.{Reached}
-use Rattle.pipe.specs.declared.Reached.TheVariants as Reached
 
 module _ (sheet : List ℕ) (r : Read) (before after : Arrays) (left : SheetRead (read sheet) r before after) where
   -- a refusal is handed on

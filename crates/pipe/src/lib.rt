@@ -1,4 +1,6 @@
 // A sheet read and searched into arrays that are lent. What a caller makes of the final arrays is its own.
+#![tactic(auto)]
+
 ghost use Rattle.std.specs.Prelude.{◌≡◌};
 ghost use Rattle.encoding.specs.Values.{no_values};
 ghost use Rattle.definitions.specs.Questions.{read};

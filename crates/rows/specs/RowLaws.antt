@@ -1,6 +1,6 @@
 -- Laws of lines and rows, for the reader of lines: a line is cut off at its LF, a word stands for its number and back,
 -- and a row of words is taken off from the front. Assumes nothing.
-use Rattle.std.specs.Prelude.{ℕ, zero, suc, ◌+◌, ◌<◌, ◌≤◌, ◌≡◌, refl, true, false, ◌&&◌, List, [], ◌∷◌, ◌++◌, eqb, leb, length, get_or, take, drop, set}
+use Rattle.std.specs.Prelude.{ℕ, zero, suc, ◌<◌, ◌≤◌, ◌≡◌, refl, true, false, ◌&&◌, List, [], ◌∷◌, ◌++◌, eqb, leb, length, get_or, take, drop, set}
 use Rattle.std.proofs.Common.{◌∙◌, arith, take-suc-set}
 use Rattle.std.proofs.lemmas.List.{map-append}
 use Rattle.std.proofs.Math.ListN.{length-take, length-map, drop_of_length-le, get_or-map}

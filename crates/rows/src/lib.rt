@@ -1,4 +1,6 @@
 // The lines of a sheet: where one ends, its filled columns as words, and its kind.
+#![tactic(auto)]
+
 ghost use Rattle.std.specs.Prelude.{◌≡◌, ◌+◌, ◌*◌, ◌≤◌, length, take, drop};
 ghost use Rattle.definitions.specs.Questions.{columns, within, good_length, rank};
 ghost use Rattle.encoding.specs.Signs.{word_of, number_of, numbers};

@@ -1,4 +1,6 @@
 // A sheet's bytes to the problem's arrays, question by question.
+#![tactic(auto)]
+
 ghost use Rattle.std.specs.Prelude.{◌≡◌, ◌≤◌, drop};
 ghost use Rattle.definitions.specs.Questions.{read};
 ghost use Rattle.encoding.specs.Signs.{numbers};

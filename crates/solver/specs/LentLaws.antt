@@ -9,7 +9,7 @@ use mathlib.Core.List.{List, []}
 use Rattle.std.proofs.Math.Seq.{take-append_seam}
 use Rattle.definitions.specs.Bounds.{room_bytes, export_bytes}
 use Rattle.definitions.specs.Questions.{read}
-use Rattle.definitions.specs.Call.{Result, answered, Lending, lendings, first_short, after_lending, result, listing_of, written}
+use Rattle.definitions.specs.Call.{answered, Lending, lendings, first_short, after_lending, result, written}
 use Rattle.definitions.specs.Export.{export_lendings, export_result, export_of, export_call, export_text, room_after_export, export_after}
 use Rattle.definitions.specs.declared.Answer.{Answer}
 use Rattle.definitions.specs.declared.Answer.TheVariants.{Refused}

@@ -1,5 +1,7 @@
 // The solver's calls: sheet bytes, a budget and a lent room. Nothing is required of a caller.
 // The promises about them stand in specs/Promises.antt.
+#![tactic(auto)]
+
 mod lent; // lent.rt: the questions about what is lent
 
 ghost use Rattle.std.specs.Prelude.{◌≡◌, [], length};

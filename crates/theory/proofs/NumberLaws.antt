@@ -1,6 +1,5 @@
 -- After every step of a search, and where it ends, the clauses that ask by their numbers are enough for step A. Assumes nothing.
 use Rattle.std.specs.Prelude.{ℕ, ◌≡◌}
-use mathlib.Core.List.Memᴰ
 use Rattle.definitions.specs.Words.{Clause}
 use Rattle.definitions.specs.Instances.{Task}
 use Rattle.definitions.specs.Search.{start, Outcome, more, done, came_to, run, next_act}

@@ -5,7 +5,6 @@ use Rattle.std.proofs.Math.Path.{subst}
 use Rattle.std.proofs.Common.{sym, ap, ◌∙◌}
 use Rattle.std.proofs.Math.Logic.{inl, inr}
 use Rattle.std.proofs.Math.Option.{some}
-use mathlib.Core.List.Memᴰ
 use Rattle.definitions.specs.Lists.{◌∈◌, all}
 use Rattle.definitions.specs.Words.{Literal, negate, Clause, goal_atoms}
 use Rattle.definitions.specs.Instances.{Task}

@@ -10,7 +10,7 @@ use Rattle.definitions.specs.Lists.{is_empty, all, filter}
 use Rattle.definitions.specs.Bounds.{sheet_bytes, longest_line}
 use Rattle.definitions.specs.Words.{Problem}
 use Rattle.definitions.specs.Sheet.{Line, put_byte, lines, nothing, is_digit, digits, natural, signed, decimal}
-use Rattle.definitions.specs.Questions.{Asked, no, yes, ◌>>=◌, ◌>>◌, ask, in_front, columns, count, columns_asked, Draft, read_line, accepted, read_lines, empty_draft, read}
+use Rattle.definitions.specs.Questions.{Asked, no, yes, ◌>>=◌, ◌>>◌, ask, in_front, columns, columns_asked, Draft, read_line, accepted, read_lines, empty_draft, read}
 use Rattle.definitions.specs.Call.{Lending, first_short, after_lending}
 use Rattle.definitions.specs.Sheets.{Row, filled, row_of, is_kind, of_kind, constants_of, Keeps, passes, FilledAlike, blank_column, is_blank}
 use Rattle.theory.specs.Tests.{by-test, by-option, apart, and_left, and_right}

@@ -1,7 +1,6 @@
 -- `answering::answered` meets its contract: the refusal of the sheet, or what is made of its search. Assumes nothing.
 use mathlib.Core.Path.{refl}
 use native.Mathlib.Omega.{arith}
-use borrow.Author.Rules.{rules}
 use Rattle.pipe.specs.ReachingLaws.{reading-refused, reading-searched}
 use Rattle.answering.specs.SolvingLaws.{refusal-solved, listing-in-room, text-fits, end-solved}
 use Rattle.answering.proofs.answered.Goals as goal

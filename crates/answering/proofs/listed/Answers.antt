@@ -1,5 +1,4 @@
 -- `answering::listed` meets its contract: the listing is put into the room, and the counts are those of the search. Assumes nothing.
-use borrow.Author.Rules.{rules}
 use Rattle.answering.specs.SolvingLaws.{listed-solved}
 use Rattle.answering.proofs.listed.Goals as goal
 

@@ -1,6 +1,4 @@
 -- `answering::made` meets its contract: the listing in its room and, where it is wanted, the text in the other. Assumes nothing.
-use borrow.Author.Rules.{rules}
-use borrow.Author.Tests.{not-true, not-false}
 use Rattle.cnf_writer.specs.CnfStands.{finished-exportable}
 use Rattle.answering.specs.SolvingLaws.{text_in-room, made-listed, made-written}
 use Rattle.answering.proofs.made.Goals as goal

@@ -1,5 +1,4 @@
 -- `with_bit` meets its contract: one shifted is a power of two. Assumes nothing.
-use borrow.Author.Rules.{rules}
 use Rattle.bits.specs.Bits.{one_shifted}
 use Rattle.bits.proofs.with_bit.Goals as goal
 

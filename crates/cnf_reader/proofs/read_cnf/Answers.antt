@@ -2,7 +2,6 @@
 use mathlib.Core.Path.{◌∙◌}
 use Rattle.cnf_reader.specs.Parts.{header_clauses}
 use Rattle.cnf_reader.proofs.Answers.{answer-no-header, answer-refused, answer-read}
-use borrow.Author.Rules.{rules}
 use Rattle.cnf_reader.proofs.read_cnf.Goals as goal
 
 pub returns-in_default : goal.returns-in_default

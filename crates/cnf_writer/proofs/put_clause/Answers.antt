@@ -1,9 +1,8 @@
 -- `cnf_writer::put_clause` meets its contract: what is left after the literals, and LF after 0. Assumes nothing.
-use Prim.Native.Nat.{ℕ, ◌+◌}
+use Prim.Native.Nat.{◌+◌}
 use mathlib.Core.Path.{refl}
-use mathlib.Core.List.{List, [], ◌∷◌}
+use mathlib.Core.List.{[], ◌∷◌}
 use native.Mathlib.Omega.{arith}
-use borrow.Author.Rules.{rules}
 use Rattle.listing.specs.Puts.{Putting, put-none-yet, put-room, put_last, put-first-room, put_first, parts-room, as_written}
 use Rattle.cnf_writer.specs.CnfBytes.{line_text}
 use Rattle.cnf_writer.proofs.Parts.{line_first}

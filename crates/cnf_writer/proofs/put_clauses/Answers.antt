@@ -2,10 +2,8 @@
 use Prim.Native.Nat.{◌+◌, ◌-◌}
 use mathlib.Core.Path.{◌≡◌, refl}
 use native.Mathlib.Omega.{arith}
-use Rattle.definitions.specs.Lists.{joined, up_from}
-use Rattle.listing.specs.Puts.{Putting, put-none-yet, put-length, put-first-room, put_first, put_all}
+use Rattle.listing.specs.Puts.{put-none-yet, put-length, put-first-room, put_first, put_all}
 use Rattle.listing.specs.JoinedLaws.{joined-first, joined-none}
-use Rattle.cnf_writer.specs.CnfBytes.{line_text}
 use Rattle.cnf_writer.proofs.put_clauses.Goals as goal
 
 pub loop-c-init : goal.loop-c-init

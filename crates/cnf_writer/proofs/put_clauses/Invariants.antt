@@ -1,10 +1,7 @@
 -- `cnf_writer::put_clauses` meets its contract: a clause each turn, and the lines of those from the c-th on are still to be put. Assumes nothing.
-use Prim.Native.Nat.{◌+◌, ◌-◌}
-use mathlib.Core.Path.{◌≡◌, refl}
-use native.Mathlib.Omega.{arith}
+use Prim.Native.Nat.{◌-◌}
 use Rattle.definitions.specs.Lists.{joined, up_from}
-use Rattle.listing.specs.Puts.{Putting, put-none-yet, put-length, put-first-room, put_first, put_all}
-use Rattle.listing.specs.JoinedLaws.{joined-first, joined-none}
+use Rattle.listing.specs.Puts.{Putting}
 use Rattle.cnf_writer.specs.CnfBytes.{line_text}
 use Rattle.cnf_writer.proofs.put_clauses.Given as goal
 

@@ -1,7 +1,6 @@
 -- `cnf_writer::put_cnf` meets its contract: the header, and behind it the clauses. Assumes nothing.
 use mathlib.Core.Path.{refl}
 use native.Mathlib.Omega.{arith}
-use borrow.Author.Rules.{rules}
 use Rattle.definitions.specs.Lists.{joined, up_from}
 use Rattle.listing.specs.Puts.{Putting, put-none-yet, put-room, put_last, put_first, parts-room}
 use Rattle.cnf_writer.specs.CnfBytes.{line_text, cnf_bytes}

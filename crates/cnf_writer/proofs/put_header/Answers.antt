@@ -1,8 +1,6 @@
 -- `cnf_writer::put_header` meets its contract: what is left after the name, each number and the blank. Assumes nothing.
-use Prim.Native.Nat.{ℕ}
 use mathlib.Core.Path.{refl}
-use mathlib.Core.List.{List, [], ◌∷◌, ◌++◌}
-use borrow.Author.Rules.{rules}
+use mathlib.Core.List.{[], ◌∷◌, ◌++◌}
 use Rattle.definitions.specs.Listing.{decimals}
 use Rattle.definitions.specs.Dimacs.{header_line}
 use Rattle.listing.specs.Puts.{Putting, put-none-yet, put-room, put_last, put-first-room, put_first, parts-room, as_written}

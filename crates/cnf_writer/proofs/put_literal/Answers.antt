@@ -1,7 +1,6 @@
 -- `cnf_writer::put_literal` meets its contract: the number, and behind it a blank. Assumes nothing.
 use mathlib.Core.Path.{refl}
 use mathlib.Core.List.{[], ◌∷◌}
-use borrow.Author.Rules.{rules}
 use Rattle.listing.specs.Puts.{Putting, put-none-yet, put-room, put_last, put_first, parts-room}
 use Rattle.cnf_writer.specs.CnfBytes.{word_text}
 use Rattle.cnf_writer.proofs.Parts.{literal-text-first}

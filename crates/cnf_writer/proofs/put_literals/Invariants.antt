@@ -1,12 +1,9 @@
 -- `cnf_writer::put_literals` meets its contract: a literal each turn, and those of the words from `i` on are still to be put. Assumes nothing.
 use Prim.Native.Nat.{◌-◌}
-use mathlib.Core.Path.{refl}
-use native.Mathlib.Omega.{arith}
 use lib.ListN.{take, drop}
 use Rattle.definitions.specs.Lists.{joined}
-use Rattle.listing.specs.Puts.{Putting, put-none-yet, put-length, put-first-room, put_first, put_all}
+use Rattle.listing.specs.Puts.{Putting}
 use Rattle.cnf_writer.specs.CnfBytes.{word_text}
-use Rattle.cnf_writer.proofs.Parts.{line-words-first, line-words-none}
 use Rattle.cnf_writer.proofs.put_literals.Given as goal
 
 abbrev pub invariant-loop-i : goal.invariant-loop-i

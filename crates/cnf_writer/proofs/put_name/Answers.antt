@@ -1,7 +1,6 @@
 -- `cnf_writer::put_name` meets its contract: six stores, one behind the other. Assumes nothing.
 use native.Mathlib.Omega.{arith}
 use lib.ListN.{length-set}
-use borrow.Author.Rules.{rules}
 use Rattle.cnf_writer.proofs.Parts.{name-put}
 use Rattle.cnf_writer.proofs.put_name.Goals as goal
 

@@ -1,6 +1,5 @@
 -- `cnf_writer::put_number` meets its contract: the sign, and behind it the digits. Assumes nothing.
 use mathlib.Core.Path.{refl}
-use borrow.Author.Rules.{rules}
 use Rattle.definitions.specs.Listing.{decimals, signed_decimals}
 use Rattle.listing.specs.Puts.{Putting, put-none-yet, put-room, put_last, put_first, parts-room}
 use Rattle.cnf_writer.proofs.Parts.{number-first}

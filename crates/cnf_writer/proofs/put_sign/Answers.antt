@@ -1,7 +1,6 @@
 -- `cnf_writer::put_sign` meets its contract: a minus, or nothing. Assumes nothing.
 use mathlib.Core.Path.{refl}
 use native.Mathlib.Omega.{arith}
-use borrow.Author.Rules.{rules}
 use Rattle.column.specs.Places.{sign}
 use Rattle.cnf_writer.proofs.put_sign.Goals as goal
 

@@ -1,5 +1,4 @@
 -- `cnf_writer::put_size` meets its contract: the places are as many as the digits. Assumes nothing.
-use borrow.Author.Rules.{rules}
 use Rattle.cnf_writer.proofs.Parts.{digits-put}
 use Rattle.cnf_writer.proofs.put_size.Goals as goal
 

@@ -1,6 +1,5 @@
 -- `column::digit` meets its contract: below, above and among the digits. Assumes nothing.
 use native.Mathlib.Omega.{arith}
-use borrow.Author.Rules.{rules}
 use Rattle.column.proofs.Scans.{below-digits, above-digits, among-digits}
 use Rattle.column.proofs.digit.Goals as goal
 

@@ -1,7 +1,6 @@
 -- `column::finish` meets its contract: what is read where no byte is left. Assumes nothing.
 use mathlib.Core.Path.{refl}
 use native.Mathlib.Nat.{le_refl}
-use borrow.Author.Rules.{rules}
 use Rattle.definitions.specs.Lists.{is_empty}
 use Rattle.definitions.specs.Sheet.{plus, digits, natural, decimal}
 use Rattle.column.specs.Scan.{read_on, size_before}

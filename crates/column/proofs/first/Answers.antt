@@ -1,5 +1,4 @@
 -- `column::first` meets its contract: a blank, a sign, a 0, or the first digit of several. Assumes nothing.
-use borrow.Author.Rules.{rules}
 use Rattle.column.proofs.Scans.{blank, minus-sign, zero-digit, first-natural}
 use Rattle.column.proofs.first.Goals as goal
 

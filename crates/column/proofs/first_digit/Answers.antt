@@ -1,6 +1,5 @@
 -- `column::first_digit` meets its contract: a natural number is digits of which the first is no 0. Assumes nothing.
 use native.Mathlib.Omega.{arith}
-use borrow.Author.Rules.{rules}
 use Rattle.column.proofs.Scans.{below-first, first-digits}
 use Rattle.column.proofs.first_digit.Goals as goal
 

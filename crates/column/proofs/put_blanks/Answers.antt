@@ -1,9 +1,8 @@
 -- `column::put_blanks` meets its contract: what is put and the blanks that are left are all of them. Assumes nothing.
-use Prim.Native.Nat.{◌-◌, ◌≤◌}
+use Prim.Native.Nat.{◌-◌}
 use mathlib.Core.Path.{◌≡◌, refl, ◌∙◌}
 use native.Mathlib.Omega.{arith}
-use lib.ListN.{length, length-set, replicate}
-use lib.Seq.{sets}
+use lib.ListN.{length-set}
 use Rattle.column.proofs.Columns.{blanks-turn}
 use Rattle.column.proofs.put_blanks.Goals as goal
 

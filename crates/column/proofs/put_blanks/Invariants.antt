@@ -1,10 +1,8 @@
 -- `column::put_blanks` meets its contract: what is put and the blanks that are left are all of them. Assumes nothing.
-use Prim.Native.Nat.{◌-◌, ◌≤◌}
-use mathlib.Core.Path.{◌≡◌, refl, ◌∙◌}
-use native.Mathlib.Omega.{arith}
-use lib.ListN.{length, length-set, replicate}
+use Prim.Native.Nat.{◌≤◌}
+use mathlib.Core.Path.{◌≡◌}
+use lib.ListN.{length, replicate}
 use lib.Seq.{sets}
-use Rattle.column.proofs.Columns.{blanks-turn}
 use Rattle.column.proofs.put_blanks.Given as goal
 
 abbrev pub invariant-loop-left : goal.invariant-loop-left

@@ -1,11 +1,8 @@
 -- `column::put_digits` meets its contract: whatever puts the digits that are left, with those that stand puts all. Assumes nothing.
-use Prim.Native.Nat.{ℕ, ◌-◌, ◌≤◌}
-use mathlib.Core.Path.{◌≡◌, refl}
-use mathlib.Core.List.{List}
+use Prim.Native.Nat.{◌-◌}
+use mathlib.Core.Path.{refl}
 use native.Mathlib.Omega.{arith}
-use lib.ListN.{length, length-set}
-use Rattle.definitions.specs.Listing.{decimals}
-use Rattle.column.specs.Places.{PutLast}
+use lib.ListN.{length-set}
 use Rattle.column.proofs.Columns.{digits-hit, digits-turn, digits-end}
 use Rattle.column.proofs.put_digits.Goals as goal
 

@@ -1,12 +1,10 @@
 -- `column::put_digits` meets its contract: whatever puts the digits that are left, with those that stand puts all. Assumes nothing.
-use Prim.Native.Nat.{ℕ, ◌-◌, ◌≤◌}
-use mathlib.Core.Path.{◌≡◌, refl}
+use Prim.Native.Nat.{ℕ, ◌≤◌}
+use mathlib.Core.Path.{◌≡◌}
 use mathlib.Core.List.{List}
-use native.Mathlib.Omega.{arith}
-use lib.ListN.{length, length-set}
+use lib.ListN.{length}
 use Rattle.definitions.specs.Listing.{decimals}
 use Rattle.column.specs.Places.{PutLast}
-use Rattle.column.proofs.Columns.{digits-hit, digits-turn, digits-end}
 use Rattle.column.proofs.put_digits.Given as goal
 
 abbrev pub invariant-loop-left : goal.invariant-loop-left

@@ -1,6 +1,5 @@
 -- `column::put_narrow` meets its contract: four places, three of them for digits behind a sign. Assumes nothing.
 use native.Mathlib.Omega.{arith}
-use borrow.Author.Rules.{rules}
 use Rattle.definitions.specs.Listing.{narrow}
 use Rattle.column.specs.Widths.{signed_fit}
 use Rattle.column.proofs.put_narrow.Goals as goal

@@ -2,7 +2,6 @@
 use Prim.Native.Nat.{suc, ◌-◌}
 use mathlib.Core.Path.{◌≡◌}
 use native.Mathlib.Omega.{arith}
-use borrow.Author.Rules.{rules}
 use Rattle.column.specs.Places.{sign}
 use Rattle.column.proofs.Columns.{sign-put, no-sign-put}
 use Rattle.column.proofs.put_sign.Goals as goal

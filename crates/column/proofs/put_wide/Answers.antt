@@ -1,6 +1,5 @@
 -- `column::put_wide` meets its contract: twelve places, and no sign. Assumes nothing.
 use mathlib.Core.Bool.{false≢true}
-use borrow.Author.Rules.{rules}
 use Rattle.definitions.specs.Sheet.{plus}
 use Rattle.definitions.specs.Listing.{wide}
 use Rattle.column.specs.Widths.{signed_fit}

@@ -1,7 +1,6 @@
 -- `column::read_column` meets its contract: four scans, one after the other, and a digit more at most with each. Assumes nothing.
 use mathlib.Core.Path.{◌∙◌}
 use native.Mathlib.Omega.{arith}
-use borrow.Author.Rules.{rules}
 use Rattle.column.proofs.Scans.{four-scans}
 use Rattle.column.proofs.read_column.Goals as goal
 

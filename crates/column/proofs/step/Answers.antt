@@ -1,5 +1,4 @@
 -- `column::step` meets its contract, by the kind of scan. Assumes nothing.
-use borrow.Author.Rules.{rules}
 use Rattle.column.specs.Scan.{read_on, size_before}
 use Rattle.column.proofs.Scans.{after-zero, after-failed}
 use Rattle.column.proofs.step.Goals as goal

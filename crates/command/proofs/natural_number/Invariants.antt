@@ -1,13 +1,11 @@
 -- `natural_number` meets its contract: what the digits that are left come to stays the same. Assumes nothing.
 use Prim.Native.Nat.{◌-◌, ◌≤◌}
-use mathlib.Core.Path.{◌≡◌, ◌∙◌}
+use mathlib.Core.Path.{◌≡◌}
 use mathlib.Core.Bool.{false}
-use native.Mathlib.Omega.{arith}
 use lib.ListN.{length}
-use borrow.Author.Rules.{rules}
 use Rattle.definitions.specs.Sheet.{natural}
 use Rattle.definitions.specs.Command.{largest_budget, in_range}
-use Rattle.command.proofs.Numerals.{natural-none, natural-low, numeral_from, natural-digits, numeral-below, numeral-above, numeral-turn, numeral-too-large, numeral-end}
+use Rattle.command.proofs.Numerals.{numeral_from}
 use Rattle.command.proofs.natural_number.Given as goal
 
 abbrev pub invariant-loop-i : goal.invariant-loop-i

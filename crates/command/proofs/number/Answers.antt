@@ -1,5 +1,4 @@
 -- `number` meets its contract: 0 alone, or a natural number. Assumes nothing.
-use borrow.Author.Rules.{rules}
 use Rattle.definitions.specs.Text.{bytes}
 use Rattle.definitions.specs.Command.{numeral}
 use Rattle.command.proofs.number.Goals as goal

@@ -1,6 +1,5 @@
 -- `ordered` meets its contract, by the first word. Assumes nothing.
 use mathlib.Core.Path.{◌∙◌, sym}
-use borrow.Author.Rules.{rules}
 use Rattle.definitions.specs.Text.{bytes}
 use Rattle.command.proofs.Orders.{order-none, order-budget, order_other}
 use Rattle.command.proofs.ordered.Goals as goal

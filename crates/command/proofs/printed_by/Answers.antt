@@ -1,7 +1,6 @@
 -- `printed_by` meets its contract, by how many words there are and by the one. Assumes nothing.
 use mathlib.Core.Path.{◌∙◌, sym}
 use native.Mathlib.Omega.{arith}
-use borrow.Author.Rules.{rules}
 use Rattle.definitions.specs.Text.{bytes}
 use Rattle.command.proofs.Orders.{listing-ordered, printed-many, printed-cnf, printed-unknown}
 use Rattle.command.proofs.printed_by.Goals as goal

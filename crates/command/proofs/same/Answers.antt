@@ -1,10 +1,7 @@
 -- `same` meets its contract: what the bytes that are left come to stays the same. Assumes nothing.
-use Prim.Native.Nat.{◌-◌, ◌≤◌}
-use mathlib.Core.Path.{◌≡◌, ◌∙◌, refl}
+use mathlib.Core.Path.{◌∙◌, refl}
 use native.Mathlib.Omega.{arith}
-use lib.ListN.{length}
 use borrow.Author.Rules.{rules}
-use Rattle.definitions.specs.Words.{same_args}
 use Rattle.command.proofs.SameWords.{other_length, same_from, same_turn, same_not, same_end}
 use Rattle.command.proofs.same.Goals as goal
 

@@ -1,11 +1,9 @@
 -- `same` meets its contract: what the bytes that are left come to stays the same. Assumes nothing.
 use Prim.Native.Nat.{◌-◌, ◌≤◌}
-use mathlib.Core.Path.{◌≡◌, ◌∙◌, refl}
-use native.Mathlib.Omega.{arith}
+use mathlib.Core.Path.{◌≡◌}
 use lib.ListN.{length}
-use borrow.Author.Rules.{rules}
 use Rattle.definitions.specs.Words.{same_args}
-use Rattle.command.proofs.SameWords.{other_length, same_from, same_turn, same_not, same_end}
+use Rattle.command.proofs.SameWords.{same_from}
 use Rattle.command.proofs.same.Given as goal
 
 abbrev pub invariant-loop-i : goal.invariant-loop-i

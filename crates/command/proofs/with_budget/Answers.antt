@@ -1,6 +1,5 @@
 -- `with_budget` meets its contract, by the number and the words behind it. Assumes nothing.
 use mathlib.Core.Path.{◌∙◌, sym}
-use borrow.Author.Rules.{rules}
 use Rattle.command.proofs.Orders.{budgeted-none, budgeted-number, budgeted-bad}
 use Rattle.command.proofs.with_budget.Goals as goal
 

@@ -1,16 +1,13 @@
 -- `lines::clause_line` meets its contract: the count return by return, then the clause by what its slots hold. Assumes nothing.
-use Prim.Native.Nat.{ℕ, ◌≤◌}
+use Prim.Native.Nat.{◌≤◌}
 use mathlib.Core.Path.{◌≡◌, sym, ◌∙◌}
 use mathlib.Core.Bool.{true}
-use mathlib.Core.List.{List}
 use native.Mathlib.Omega.{arith}
 use lib.ListN.{length, get_or, take, length-take}
 use Rattle.definitions.specs.Questions.{within}
 use Rattle.encoding.specs.Signs.{number_of}
 use Rattle.lines.specs.LineReads.{more_clauses}
 use Rattle.lines.proofs.ClauseLines.{clause-refused, literals-missing, literals-out, clauses-full, ClauseCounted, clause-few, clause-unread, clause-over, clause-slots, clause-many, clause-read}
-use borrow.Author.Rules.{rules}
-use borrow.Author.Tests.{not-true, not-false}
 use Rattle.lines.proofs.clause_line.Goals as goal
 
 pub returns-then-n-lt2 : goal.returns-then-n-lt2
@@ -30,13 +27,13 @@ read_slots-next-requires c =
     let count-in : within 0 8 (number_of (get_or c.args.row.now 1 0)) ≡ true = sym c.in_range.ensures ∙ c.if-not-in_range.false
     in
     let counted : ClauseCounted c.args.n c.args.row.now c.args.s c.wide-count.result =
-        record {
-          fits = omega arith;
-          two = omega arith;
-          read = count-in;
-          room = omega (arith, c.requires.1.clauses);
-          word = c.wide-count.ensures.0;
-        }
+    record {
+      fits = omega arith;
+      two = omega arith;
+      read = count-in;
+      room = omega (arith, c.requires.1.clauses);
+      word = c.wide-count.ensures.0;
+    }
     in
     let ready = c.requires.1 in
     (ready.symbols, ready.arity, omega arith, omega arith, clause-few counted)
@@ -46,13 +43,13 @@ returns-then-next-eq0 c =
     let count-in : within 0 8 (number_of (get_or c.args.row.now 1 0)) ≡ true = sym c.in_range.ensures ∙ c.if-not-in_range.false
     in
     let counted : ClauseCounted c.args.n c.args.row.now c.args.s c.wide-count.result =
-        record {
-          fits = omega arith;
-          two = omega arith;
-          read = count-in;
-          room = omega (arith, c.requires.1.clauses);
-          word = c.wide-count.ensures.0;
-        }
+    record {
+      fits = omega arith;
+      two = omega arith;
+      read = count-in;
+      room = omega (arith, c.requires.1.clauses);
+      word = c.wide-count.ensures.0;
+    }
     in
     clause-refused _ _ _ _ _ _ _ _ _ (clause-unread _ _ _ (take c.args.s.symbols c.args.arities.now) _ _ _ _ counted c.read_slots-next.ensures c.if-next-eq0.true)
 
@@ -61,13 +58,13 @@ returns-then-next-n c =
     let count-in : within 0 8 (number_of (get_or c.args.row.now 1 0)) ≡ true = sym c.in_range.ensures ∙ c.if-not-in_range.false
     in
     let counted : ClauseCounted c.args.n c.args.row.now c.args.s c.wide-count.result =
-        record {
-          fits = omega arith;
-          two = omega arith;
-          read = count-in;
-          room = omega (arith, c.requires.1.clauses);
-          word = c.wide-count.ensures.0;
-        }
+    record {
+      fits = omega arith;
+      two = omega arith;
+      read = count-in;
+      room = omega (arith, c.requires.1.clauses);
+      word = c.wide-count.ensures.0;
+    }
     in
     clause-refused _ _ _ _ _ _ _ _ _ (clause-over _ _ _ (take c.args.s.symbols c.args.arities.now) _ _ _ _ counted c.read_slots-next.ensures c.if-next-eq0.false c.if-next-n.true)
 
@@ -76,13 +73,13 @@ enter_clause-atoms-requires c =
     let count-in : within 0 8 (number_of (get_or c.args.row.now 1 0)) ≡ true = sym c.in_range.ensures ∙ c.if-not-in_range.false
     in
     let counted : ClauseCounted c.args.n c.args.row.now c.args.s c.wide-count.result =
-        record {
-          fits = omega arith;
-          two = omega arith;
-          read = count-in;
-          room = omega (arith, c.requires.1.clauses);
-          word = c.wide-count.ensures.0;
-        }
+    record {
+      fits = omega arith;
+      two = omega arith;
+      read = count-in;
+      room = omega (arith, c.requires.1.clauses);
+      word = c.wide-count.ensures.0;
+    }
     in
     let declared-few : length (take c.args.s.symbols c.args.arities.now) ≤ 16 = omega (arith, c.requires.1.symbols, length-take c.args.s.symbols c.args.arities.now)
     in
@@ -98,13 +95,13 @@ returns-then-atoms-gt-GOALS c =
     let count-in : within 0 8 (number_of (get_or c.args.row.now 1 0)) ≡ true = sym c.in_range.ensures ∙ c.if-not-in_range.false
     in
     let counted : ClauseCounted c.args.n c.args.row.now c.args.s c.wide-count.result =
-        record {
-          fits = omega arith;
-          two = omega arith;
-          read = count-in;
-          room = omega (arith, c.requires.1.clauses);
-          word = c.wide-count.ensures.0;
-        }
+    record {
+      fits = omega arith;
+      two = omega arith;
+      read = count-in;
+      room = omega (arith, c.requires.1.clauses);
+      word = c.wide-count.ensures.0;
+    }
     in
     let slots-room : 32 ≤ length c.args.slots.now = omega arith
     in
@@ -121,13 +118,13 @@ returns c =
     let count-in : within 0 8 (number_of (get_or c.args.row.now 1 0)) ≡ true = sym c.in_range.ensures ∙ c.if-not-in_range.false
     in
     let counted : ClauseCounted c.args.n c.args.row.now c.args.s c.wide-count.result =
-        record {
-          fits = omega arith;
-          two = omega arith;
-          read = count-in;
-          room = omega (arith, c.requires.1.clauses);
-          word = c.wide-count.ensures.0;
-        }
+    record {
+      fits = omega arith;
+      two = omega arith;
+      read = count-in;
+      room = omega (arith, c.requires.1.clauses);
+      word = c.wide-count.ensures.0;
+    }
     in
     let slots-room : 32 ≤ length c.args.slots.now = omega arith
     in

@@ -3,8 +3,6 @@ use mathlib.Core.Path.{sym, ◌∙◌}
 use native.Mathlib.Omega.{arith}
 use Rattle.lines.specs.LineReads.{more_constants}
 use Rattle.lines.proofs.CountLines.{constants-refused, constants-missing, constants-out, constants-over, constants-read}
-use borrow.Author.Rules.{rules}
-use borrow.Author.Tests.{not-true, not-false}
 use Rattle.lines.proofs.constants_line.Goals as goal
 
 pub returns-then-n-lt2 : goal.returns-then-n-lt2

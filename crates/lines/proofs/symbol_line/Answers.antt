@@ -5,8 +5,6 @@ use Rattle.theory.specs.Limits.{within-between}
 use Rattle.encoding.specs.Signs.{number_of}
 use Rattle.lines.specs.LineReads.{more_symbols}
 use Rattle.lines.proofs.CountLines.{symbol-refused, arity-missing, arity-out, symbols-full, arity-over, symbol-read}
-use borrow.Author.Rules.{rules}
-use borrow.Author.Tests.{not-true, not-false}
 use Rattle.lines.proofs.symbol_line.Goals as goal
 
 pub returns-then-n-lt2 : goal.returns-then-n-lt2

@@ -1,5 +1,4 @@
 -- `listing::constant` meets its contract, place by place. Assumes nothing.
-use borrow.Author.Rules.{rules}
 use Rattle.listing.proofs.Columns.{constant-first, constant-second, constant-third}
 use Rattle.listing.proofs.constant.Goals as goal
 

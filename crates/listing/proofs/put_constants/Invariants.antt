@@ -1,12 +1,9 @@
 -- `listing::put_constants` meets its contract: a constant each turn, and those from `i` on are still to be put. Assumes nothing.
 use Prim.Native.Nat.{◌-◌, ◌≤◌}
-use mathlib.Core.Path.{◌≡◌, refl}
 use mathlib.Core.List.{map}
-use native.Mathlib.Omega.{arith}
 use Rattle.definitions.specs.Lists.{up_from}
-use Rattle.listing.specs.Puts.{Putting, put-none-yet, put-length, put-first-room, put_first, put_all}
+use Rattle.listing.specs.Puts.{Putting}
 use Rattle.listing.specs.Lines.{column_bytes, constant_number}
-use Rattle.listing.proofs.Parts.{no_sign, constants-first, constants-none}
 use Rattle.listing.proofs.put_constants.Given as goal
 
 abbrev pub invariant-loop-i : goal.invariant-loop-i

@@ -1,6 +1,5 @@
 -- `listing::put_count` meets its contract: a wide column has twelve bytes. Assumes nothing.
 use native.Mathlib.Omega.{arith}
-use borrow.Author.Rules.{rules}
 use Rattle.column.specs.Widths.{wide-length}
 use Rattle.listing.proofs.put_count.Goals as goal
 

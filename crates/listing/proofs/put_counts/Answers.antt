@@ -1,9 +1,7 @@
 -- `listing::put_counts` meets its contract: what is left after each column. Assumes nothing.
-use Prim.Native.Nat.{ℕ}
 use mathlib.Core.Path.{refl}
-use mathlib.Core.List.{List, [], ◌∷◌, ◌++◌}
-use borrow.Author.Rules.{rules}
-use Rattle.definitions.specs.Sheet.{Number, plus}
+use mathlib.Core.List.{[], ◌∷◌, ◌++◌}
+use Rattle.definitions.specs.Sheet.{plus}
 use Rattle.definitions.specs.Listing.{field_bytes, wide, answer_number}
 use Rattle.listing.specs.Puts.{Putting, put-none-yet, put-room, put_last, put-first-room, put_first, parts-room, as_written}
 use Rattle.listing.specs.Lines.{column_bytes, count_bytes}
@@ -24,7 +22,7 @@ put_number-three-requires c =
     let one : ((Putting c.args.room.now c.args.at (count_bytes c.args.verdict c.args.atoms c.args.logged c.args.decisions c.args.conflicts)) (column_bytes (plus (answer_number c.args.verdict) ∷ plus c.args.atoms ∷ plus c.args.logged ∷ []) ++ counts_behind c.args.decisions c.args.conflicts)) c.put_number-one.result c.put_number-one.new.room = put_first (put-none-yet refl) (counts-first _ _ _ _ _) c.put_number-one.ensures
     in
     let two : ((Putting c.args.room.now c.args.at (count_bytes c.args.verdict c.args.atoms c.args.logged c.args.decisions c.args.conflicts)) (column_bytes (plus c.args.atoms ∷ plus c.args.logged ∷ []) ++ counts_behind c.args.decisions c.args.conflicts)) c.put_number-two.result c.put_number-two.new.room =
-        put_first one (columns-first c.number-answer.ensures _ _) c.put_number-two.ensures
+    put_first one (columns-first c.number-answer.ensures _ _) c.put_number-two.ensures
     in
     (put-first-room two (columns-first refl _ _) c.requires, no_sign)
 
@@ -33,7 +31,7 @@ put_number-four-requires c =
     let one : ((Putting c.args.room.now c.args.at (count_bytes c.args.verdict c.args.atoms c.args.logged c.args.decisions c.args.conflicts)) (column_bytes (plus (answer_number c.args.verdict) ∷ plus c.args.atoms ∷ plus c.args.logged ∷ []) ++ counts_behind c.args.decisions c.args.conflicts)) c.put_number-one.result c.put_number-one.new.room = put_first (put-none-yet refl) (counts-first _ _ _ _ _) c.put_number-one.ensures
     in
     let two : ((Putting c.args.room.now c.args.at (count_bytes c.args.verdict c.args.atoms c.args.logged c.args.decisions c.args.conflicts)) (column_bytes (plus c.args.atoms ∷ plus c.args.logged ∷ []) ++ counts_behind c.args.decisions c.args.conflicts)) c.put_number-two.result c.put_number-two.new.room =
-        put_first one (columns-first c.number-answer.ensures _ _) c.put_number-two.ensures
+    put_first one (columns-first c.number-answer.ensures _ _) c.put_number-two.ensures
     in
     let three : ((Putting c.args.room.now c.args.at (count_bytes c.args.verdict c.args.atoms c.args.logged c.args.decisions c.args.conflicts)) (column_bytes (plus c.args.logged ∷ []) ++ counts_behind c.args.decisions c.args.conflicts)) c.put_number-three.result c.put_number-three.new.room = put_first two (columns-first refl _ _) c.put_number-three.ensures
     in
@@ -44,7 +42,7 @@ put_count-five-requires c =
     let one : ((Putting c.args.room.now c.args.at (count_bytes c.args.verdict c.args.atoms c.args.logged c.args.decisions c.args.conflicts)) (column_bytes (plus (answer_number c.args.verdict) ∷ plus c.args.atoms ∷ plus c.args.logged ∷ []) ++ counts_behind c.args.decisions c.args.conflicts)) c.put_number-one.result c.put_number-one.new.room = put_first (put-none-yet refl) (counts-first _ _ _ _ _) c.put_number-one.ensures
     in
     let two : ((Putting c.args.room.now c.args.at (count_bytes c.args.verdict c.args.atoms c.args.logged c.args.decisions c.args.conflicts)) (column_bytes (plus c.args.atoms ∷ plus c.args.logged ∷ []) ++ counts_behind c.args.decisions c.args.conflicts)) c.put_number-two.result c.put_number-two.new.room =
-        put_first one (columns-first c.number-answer.ensures _ _) c.put_number-two.ensures
+    put_first one (columns-first c.number-answer.ensures _ _) c.put_number-two.ensures
     in
     let three : ((Putting c.args.room.now c.args.at (count_bytes c.args.verdict c.args.atoms c.args.logged c.args.decisions c.args.conflicts)) (column_bytes (plus c.args.logged ∷ []) ++ counts_behind c.args.decisions c.args.conflicts)) c.put_number-three.result c.put_number-three.new.room = put_first two (columns-first refl _ _) c.put_number-three.ensures
     in
@@ -57,7 +55,7 @@ put_count-six-requires c =
     let one : ((Putting c.args.room.now c.args.at (count_bytes c.args.verdict c.args.atoms c.args.logged c.args.decisions c.args.conflicts)) (column_bytes (plus (answer_number c.args.verdict) ∷ plus c.args.atoms ∷ plus c.args.logged ∷ []) ++ counts_behind c.args.decisions c.args.conflicts)) c.put_number-one.result c.put_number-one.new.room = put_first (put-none-yet refl) (counts-first _ _ _ _ _) c.put_number-one.ensures
     in
     let two : ((Putting c.args.room.now c.args.at (count_bytes c.args.verdict c.args.atoms c.args.logged c.args.decisions c.args.conflicts)) (column_bytes (plus c.args.atoms ∷ plus c.args.logged ∷ []) ++ counts_behind c.args.decisions c.args.conflicts)) c.put_number-two.result c.put_number-two.new.room =
-        put_first one (columns-first c.number-answer.ensures _ _) c.put_number-two.ensures
+    put_first one (columns-first c.number-answer.ensures _ _) c.put_number-two.ensures
     in
     let three : ((Putting c.args.room.now c.args.at (count_bytes c.args.verdict c.args.atoms c.args.logged c.args.decisions c.args.conflicts)) (column_bytes (plus c.args.logged ∷ []) ++ counts_behind c.args.decisions c.args.conflicts)) c.put_number-three.result c.put_number-three.new.room = put_first two (columns-first refl _ _) c.put_number-three.ensures
     in
@@ -72,7 +70,7 @@ put_end-requires c =
     let one : ((Putting c.args.room.now c.args.at (count_bytes c.args.verdict c.args.atoms c.args.logged c.args.decisions c.args.conflicts)) (column_bytes (plus (answer_number c.args.verdict) ∷ plus c.args.atoms ∷ plus c.args.logged ∷ []) ++ counts_behind c.args.decisions c.args.conflicts)) c.put_number-one.result c.put_number-one.new.room = put_first (put-none-yet refl) (counts-first _ _ _ _ _) c.put_number-one.ensures
     in
     let two : ((Putting c.args.room.now c.args.at (count_bytes c.args.verdict c.args.atoms c.args.logged c.args.decisions c.args.conflicts)) (column_bytes (plus c.args.atoms ∷ plus c.args.logged ∷ []) ++ counts_behind c.args.decisions c.args.conflicts)) c.put_number-two.result c.put_number-two.new.room =
-        put_first one (columns-first c.number-answer.ensures _ _) c.put_number-two.ensures
+    put_first one (columns-first c.number-answer.ensures _ _) c.put_number-two.ensures
     in
     let three : ((Putting c.args.room.now c.args.at (count_bytes c.args.verdict c.args.atoms c.args.logged c.args.decisions c.args.conflicts)) (column_bytes (plus c.args.logged ∷ []) ++ counts_behind c.args.decisions c.args.conflicts)) c.put_number-three.result c.put_number-three.new.room = put_first two (columns-first refl _ _) c.put_number-three.ensures
     in
@@ -89,7 +87,7 @@ returns c =
     let one : ((Putting c.args.room.now c.args.at (count_bytes c.args.verdict c.args.atoms c.args.logged c.args.decisions c.args.conflicts)) (column_bytes (plus (answer_number c.args.verdict) ∷ plus c.args.atoms ∷ plus c.args.logged ∷ []) ++ counts_behind c.args.decisions c.args.conflicts)) c.put_number-one.result c.put_number-one.new.room = put_first (put-none-yet refl) (counts-first _ _ _ _ _) c.put_number-one.ensures
     in
     let two : ((Putting c.args.room.now c.args.at (count_bytes c.args.verdict c.args.atoms c.args.logged c.args.decisions c.args.conflicts)) (column_bytes (plus c.args.atoms ∷ plus c.args.logged ∷ []) ++ counts_behind c.args.decisions c.args.conflicts)) c.put_number-two.result c.put_number-two.new.room =
-        put_first one (columns-first c.number-answer.ensures _ _) c.put_number-two.ensures
+    put_first one (columns-first c.number-answer.ensures _ _) c.put_number-two.ensures
     in
     let three : ((Putting c.args.room.now c.args.at (count_bytes c.args.verdict c.args.atoms c.args.logged c.args.decisions c.args.conflicts)) (column_bytes (plus c.args.logged ∷ []) ++ counts_behind c.args.decisions c.args.conflicts)) c.put_number-three.result c.put_number-three.new.room = put_first two (columns-first refl _ _) c.put_number-three.ensures
     in

@@ -1,6 +1,5 @@
 -- `listing::put_last` meets its contract: nothing, or the settings for UNKNOWN. Assumes nothing.
 use mathlib.Core.Path.{refl}
-use borrow.Author.Rules.{rules}
 use Rattle.listing.specs.Puts.{put-none-yet, put-room, put_last, put_all}
 use Rattle.listing.proofs.Parts.{settings-unsat, settings-unknown, settings-spent, settings-full}
 use Rattle.listing.proofs.put_last.Goals as goal

@@ -1,8 +1,6 @@
 -- `listing::put_lines` meets its contract: the counts, the log, and what is last. Assumes nothing.
-use Prim.Native.Nat.{ℕ}
 use mathlib.Core.Path.{refl}
-use mathlib.Core.List.{List, ◌++◌}
-use borrow.Author.Rules.{rules}
+use mathlib.Core.List.{◌++◌}
 use Rattle.listing.specs.Puts.{Putting, put-none-yet, put-room, put_last, put-first-room, put_first, parts-room, as_written}
 use Rattle.listing.specs.Lines.{log_bytes, settings_bytes, listing_bytes}
 use Rattle.listing.proofs.Parts.{listing-first}

@@ -1,6 +1,5 @@
 -- `listing::put_listing` meets its contract: the bytes from the arrays are the listing. Assumes nothing.
 use native.Mathlib.Omega.{arith}
-use borrow.Author.Rules.{rules}
 use Rattle.listing.specs.Puts.{put-none-yet, put-room, put_last}
 use Rattle.listing.specs.ListingStands.{listing-stands, finished-listable}
 use Rattle.listing.proofs.put_listing.Goals as goal

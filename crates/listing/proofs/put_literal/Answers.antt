@@ -2,7 +2,6 @@
 use mathlib.Core.List.{map}
 use mathlib.Core.Path.{refl}
 use native.Mathlib.Omega.{arith}
-use borrow.Author.Rules.{rules}
 use Rattle.definitions.specs.Lists.{up_from}
 use Rattle.listing.specs.Puts.{Putting, put-none-yet, put-room, put_last, put_first, parts-room}
 use Rattle.listing.specs.Lines.{column_bytes, constant_number, code_numbers}

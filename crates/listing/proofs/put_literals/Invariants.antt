@@ -1,12 +1,9 @@
 -- `listing::put_literals` meets its contract: a literal each turn, and those of the words from `i` on are still to be put. Assumes nothing.
-use Prim.Native.Nat.{◌-◌, ◌≤◌, ◌<◌}
-use mathlib.Core.Path.{refl}
-use native.Mathlib.Omega.{arith}
-use lib.ListN.{get_or, take, drop}
+use Prim.Native.Nat.{◌-◌, ◌≤◌}
+use lib.ListN.{take, drop}
 use Rattle.definitions.specs.Lists.{joined}
-use Rattle.listing.specs.Puts.{Putting, put-none-yet, put-length, put-first-room, put_first, put_all}
+use Rattle.listing.specs.Puts.{Putting}
 use Rattle.listing.specs.Lines.{column_bytes, word_numbers}
-use Rattle.listing.proofs.Parts.{words-first, words-none}
 use Rattle.listing.proofs.put_literals.Given as goal
 
 abbrev pub invariant-loop-i : goal.invariant-loop-i

@@ -1,10 +1,9 @@
 -- `listing::put_log` meets its contract: a clause each turn, and the lines of those from the n-th on are still to be put. Assumes nothing.
-use Prim.Native.Nat.{◌+◌, ◌-◌, ◌≤◌}
+use Prim.Native.Nat.{◌+◌, ◌-◌}
 use mathlib.Core.Path.{◌≡◌, refl}
 use native.Mathlib.Omega.{arith}
-use Rattle.definitions.specs.Lists.{joined, up_from}
-use Rattle.listing.specs.Puts.{Putting, put-none-yet, put-length, put-first-room, put_first, put_all}
-use Rattle.listing.specs.Lines.{logged_bytes, log_bytes}
+use Rattle.listing.specs.Puts.{put-none-yet, put-length, put-first-room, put_first, put_all}
+use Rattle.listing.specs.Lines.{log_bytes}
 use Rattle.listing.specs.JoinedLaws.{joined-first, joined-none}
 use Rattle.listing.proofs.Parts.{listable-first}
 use Rattle.listing.proofs.put_log.Goals as goal

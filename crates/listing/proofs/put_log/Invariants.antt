@@ -1,12 +1,8 @@
 -- `listing::put_log` meets its contract: a clause each turn, and the lines of those from the n-th on are still to be put. Assumes nothing.
-use Prim.Native.Nat.{◌+◌, ◌-◌, ◌≤◌}
-use mathlib.Core.Path.{◌≡◌, refl}
-use native.Mathlib.Omega.{arith}
+use Prim.Native.Nat.{◌-◌, ◌≤◌}
 use Rattle.definitions.specs.Lists.{joined, up_from}
-use Rattle.listing.specs.Puts.{Putting, put-none-yet, put-length, put-first-room, put_first, put_all}
+use Rattle.listing.specs.Puts.{Putting}
 use Rattle.listing.specs.Lines.{logged_bytes, log_bytes}
-use Rattle.listing.specs.JoinedLaws.{joined-first, joined-none}
-use Rattle.listing.proofs.Parts.{listable-first}
 use Rattle.listing.proofs.put_log.Given as goal
 
 abbrev pub invariant-loop-n : goal.invariant-loop-n

@@ -1,13 +1,12 @@
 -- `listing::put_logged` meets its contract: what is left after each column, the literals and LF. Assumes nothing.
-use Prim.Native.Nat.{ℕ, ◌+◌, ◌-◌, ◌≤◌}
+use Prim.Native.Nat.{◌+◌, ◌-◌, ◌≤◌}
 use mathlib.Core.Path.{◌≡◌, refl}
-use mathlib.Core.List.{List, [], ◌∷◌}
+use mathlib.Core.List.{[], ◌∷◌}
 use native.Mathlib.Omega.{arith}
 use lib.ListN.{length, get_or}
-use borrow.Author.Rules.{rules}
 use Rattle.encoding.specs.Lengths.{literal_array}
 use Rattle.definitions.specs.Lists.{joined}
-use Rattle.definitions.specs.Sheet.{Number, plus}
+use Rattle.definitions.specs.Sheet.{plus}
 use Rattle.units.specs.Units.{clause_at}
 use Rattle.listing.specs.Puts.{Putting, put-none-yet, put-room, put_last, put-first-room, put_first, parts-room}
 use Rattle.listing.specs.Lines.{row_bytes, word_numbers, logged_bytes}
@@ -63,7 +62,7 @@ put_number-three-requires c =
     in
     let two : (Putting c.args.room.now c.args.at
     (logged_bytes c.args.given c.args.arities.now c.args.starts.now c.args.literals.now c.args.numbers.now c.args.table.now c.args.n)) (row_bytes (plus (length (clause_at c.args.starts.now c.args.literals.now (c.args.given + c.args.n))) ∷ (joined (word_numbers c.args.arities.now c.args.table.now) (clause_at c.args.starts.now c.args.literals.now (c.args.given + c.args.n))))) c.put_number-two.result c.put_number-two.new.room =
-        put_first one (row_first c.widened-rule.ensures.0 _) c.put_number-two.ensures
+    put_first one (row_first c.widened-rule.ensures.0 _) c.put_number-two.ensures
     in
     (put-first-room two (row_first count _) c.requires.2, no_sign)
 
@@ -80,11 +79,11 @@ put_literals-four-requires c =
     in
     let two : (Putting c.args.room.now c.args.at
     (logged_bytes c.args.given c.args.arities.now c.args.starts.now c.args.literals.now c.args.numbers.now c.args.table.now c.args.n)) (row_bytes (plus (length (clause_at c.args.starts.now c.args.literals.now (c.args.given + c.args.n))) ∷ (joined (word_numbers c.args.arities.now c.args.table.now) (clause_at c.args.starts.now c.args.literals.now (c.args.given + c.args.n))))) c.put_number-two.result c.put_number-two.new.room =
-        put_first one (row_first c.widened-rule.ensures.0 _) c.put_number-two.ensures
+    put_first one (row_first c.widened-rule.ensures.0 _) c.put_number-two.ensures
     in
     let three : (Putting c.args.room.now c.args.at
     (logged_bytes c.args.given c.args.arities.now c.args.starts.now c.args.literals.now c.args.numbers.now c.args.table.now c.args.n)) (row_bytes (joined (word_numbers c.args.arities.now c.args.table.now) (clause_at c.args.starts.now c.args.literals.now (c.args.given + c.args.n)))) c.put_number-three.result c.put_number-three.new.room =
-        put_first two (row_first count _) c.put_number-three.ensures
+    put_first two (row_first count _) c.put_number-three.ensures
     in
     (rises, inside, c.requires.1.words, put-first-room three (clause-end _ _ _ _ _) c.requires.2)
 
@@ -101,11 +100,11 @@ put_end-requires c =
     in
     let two : (Putting c.args.room.now c.args.at
     (logged_bytes c.args.given c.args.arities.now c.args.starts.now c.args.literals.now c.args.numbers.now c.args.table.now c.args.n)) (row_bytes (plus (length (clause_at c.args.starts.now c.args.literals.now (c.args.given + c.args.n))) ∷ (joined (word_numbers c.args.arities.now c.args.table.now) (clause_at c.args.starts.now c.args.literals.now (c.args.given + c.args.n))))) c.put_number-two.result c.put_number-two.new.room =
-        put_first one (row_first c.widened-rule.ensures.0 _) c.put_number-two.ensures
+    put_first one (row_first c.widened-rule.ensures.0 _) c.put_number-two.ensures
     in
     let three : (Putting c.args.room.now c.args.at
     (logged_bytes c.args.given c.args.arities.now c.args.starts.now c.args.literals.now c.args.numbers.now c.args.table.now c.args.n)) (row_bytes (joined (word_numbers c.args.arities.now c.args.table.now) (clause_at c.args.starts.now c.args.literals.now (c.args.given + c.args.n)))) c.put_number-three.result c.put_number-three.new.room =
-        put_first two (row_first count _) c.put_number-three.ensures
+    put_first two (row_first count _) c.put_number-three.ensures
     in
     let four : (Putting c.args.room.now c.args.at
     (logged_bytes c.args.given c.args.arities.now c.args.starts.now c.args.literals.now c.args.numbers.now c.args.table.now c.args.n)) (10 ∷ []) c.put_literals-four.result c.put_literals-four.new.room = put_first three (clause-end _ _ _ _ _) c.put_literals-four.ensures
@@ -125,11 +124,11 @@ returns c =
     in
     let two : (Putting c.args.room.now c.args.at
     (logged_bytes c.args.given c.args.arities.now c.args.starts.now c.args.literals.now c.args.numbers.now c.args.table.now c.args.n)) (row_bytes (plus (length (clause_at c.args.starts.now c.args.literals.now (c.args.given + c.args.n))) ∷ (joined (word_numbers c.args.arities.now c.args.table.now) (clause_at c.args.starts.now c.args.literals.now (c.args.given + c.args.n))))) c.put_number-two.result c.put_number-two.new.room =
-        put_first one (row_first c.widened-rule.ensures.0 _) c.put_number-two.ensures
+    put_first one (row_first c.widened-rule.ensures.0 _) c.put_number-two.ensures
     in
     let three : (Putting c.args.room.now c.args.at
     (logged_bytes c.args.given c.args.arities.now c.args.starts.now c.args.literals.now c.args.numbers.now c.args.table.now c.args.n)) (row_bytes (joined (word_numbers c.args.arities.now c.args.table.now) (clause_at c.args.starts.now c.args.literals.now (c.args.given + c.args.n)))) c.put_number-three.result c.put_number-three.new.room =
-        put_first two (row_first count _) c.put_number-three.ensures
+    put_first two (row_first count _) c.put_number-three.ensures
     in
     let four : (Putting c.args.room.now c.args.at
     (logged_bytes c.args.given c.args.arities.now c.args.starts.now c.args.literals.now c.args.numbers.now c.args.table.now c.args.n)) (10 ∷ []) c.put_literals-four.result c.put_literals-four.new.room = put_first three (clause-end _ _ _ _ _) c.put_literals-four.ensures

@@ -1,6 +1,5 @@
 -- `listing::put_number` meets its contract: a column has four bytes. Assumes nothing.
 use native.Mathlib.Omega.{arith}
-use borrow.Author.Rules.{rules}
 use Rattle.listing.proofs.Columns.{column-length, column-put}
 use Rattle.listing.proofs.put_number.Goals as goal
 

@@ -1,10 +1,9 @@
 -- `listing::put_refusal` meets its contract: three columns and LF. Assumes nothing.
 use Prim.Native.Nat.{ℕ, ◌+◌, ◌≤◌}
 use mathlib.Core.Path.{refl}
-use mathlib.Core.List.{List, [], ◌∷◌}
+use mathlib.Core.List.{[], ◌∷◌}
 use native.Mathlib.Omega.{arith}
 use lib.ListN.{length}
-use borrow.Author.Rules.{rules}
 use Rattle.definitions.specs.Sheet.{plus}
 use Rattle.definitions.specs.Listing.{refusal_line}
 use Rattle.listing.specs.Puts.{Parts, Putting, put-none-yet, put-room, put_last, put-first-room, put_first, parts-room}
@@ -41,7 +40,7 @@ put_number-three-requires c =
     let one : (Putting c.args.room.now 0 (refusal_line c.args.number c.args.line)) (row_bytes (plus c.args.number ∷ plus c.args.line ∷ [])) c.put_number-one.result c.put_number-one.new.room = put_first (put-none-yet refl) (refusal-first _ _) c.put_number-one.ensures
     in
     let two : (Putting c.args.room.now 0 (refusal_line c.args.number c.args.line)) (row_bytes (plus c.args.line ∷ [])) c.put_number-two.result c.put_number-two.new.room =
-        put_first one (row_first c.widened-question.ensures.0 _) c.put_number-two.ensures
+    put_first one (row_first c.widened-question.ensures.0 _) c.put_number-two.ensures
     in
     (put-first-room two (last-column _) fits, no_sign)
 
@@ -52,7 +51,7 @@ put_end-requires c =
     let one : (Putting c.args.room.now 0 (refusal_line c.args.number c.args.line)) (row_bytes (plus c.args.number ∷ plus c.args.line ∷ [])) c.put_number-one.result c.put_number-one.new.room = put_first (put-none-yet refl) (refusal-first _ _) c.put_number-one.ensures
     in
     let two : (Putting c.args.room.now 0 (refusal_line c.args.number c.args.line)) (row_bytes (plus c.args.line ∷ [])) c.put_number-two.result c.put_number-two.new.room =
-        put_first one (row_first c.widened-question.ensures.0 _) c.put_number-two.ensures
+    put_first one (row_first c.widened-question.ensures.0 _) c.put_number-two.ensures
     in
     let three : (Putting c.args.room.now 0 (refusal_line c.args.number c.args.line)) (10 ∷ []) c.put_number-three.result c.put_number-three.new.room = put_first two (last-column _) c.put_number-three.ensures
     in
@@ -63,7 +62,7 @@ returns c =
     let one : (Putting c.args.room.now 0 (refusal_line c.args.number c.args.line)) (row_bytes (plus c.args.number ∷ plus c.args.line ∷ [])) c.put_number-one.result c.put_number-one.new.room = put_first (put-none-yet refl) (refusal-first _ _) c.put_number-one.ensures
     in
     let two : (Putting c.args.room.now 0 (refusal_line c.args.number c.args.line)) (row_bytes (plus c.args.line ∷ [])) c.put_number-two.result c.put_number-two.new.room =
-        put_first one (row_first c.widened-question.ensures.0 _) c.put_number-two.ensures
+    put_first one (row_first c.widened-question.ensures.0 _) c.put_number-two.ensures
     in
     let three : (Putting c.args.room.now 0 (refusal_line c.args.number c.args.line)) (10 ∷ []) c.put_number-three.result c.put_number-three.new.room = put_first two (last-column _) c.put_number-three.ensures
     in

@@ -1,7 +1,6 @@
 -- `listing::put_set` meets its contract: the kind, the literal and LF. Assumes nothing.
 use mathlib.Core.Path.{refl}
 use mathlib.Core.List.{[], ◌∷◌}
-use borrow.Author.Rules.{rules}
 use Rattle.definitions.specs.Sheet.{plus}
 use Rattle.listing.specs.Puts.{Putting, put-none-yet, put-room, put_last, put-first-room, put_first, parts-room}
 use Rattle.listing.specs.Lines.{row_bytes, code_numbers}

@@ -1,6 +1,5 @@
 -- `listing::put_setting` meets its contract: no line, or that of the atom's literal. Assumes nothing.
 use mathlib.Core.Path.{refl}
-use borrow.Author.Rules.{rules}
 use Rattle.listing.specs.Puts.{put-none-yet, put-room, put_last, put_all}
 use Rattle.listing.proofs.Parts.{setting-unset, setting-set}
 use Rattle.listing.proofs.put_setting.Goals as goal

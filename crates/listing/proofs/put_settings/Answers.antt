@@ -1,10 +1,8 @@
 -- `listing::put_settings` meets its contract: a position each turn, and the lines of those from `i` on are still to be put. Assumes nothing.
-use Prim.Native.Nat.{◌-◌, ◌≤◌}
+use Prim.Native.Nat.{◌-◌}
 use mathlib.Core.Path.{◌≡◌, refl}
 use native.Mathlib.Omega.{arith}
-use Rattle.definitions.specs.Lists.{joined, up_from}
-use Rattle.listing.specs.Puts.{Putting, put-none-yet, put-length, put-first-room, put_first, put_all}
-use Rattle.listing.specs.Lines.{setting_bytes}
+use Rattle.listing.specs.Puts.{put-none-yet, put-length, put-first-room, put_first, put_all}
 use Rattle.listing.specs.JoinedLaws.{joined-first, joined-none}
 use Rattle.listing.proofs.put_settings.Goals as goal
 

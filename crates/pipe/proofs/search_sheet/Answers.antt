@@ -1,6 +1,5 @@
 -- `pipe::search_sheet` meets its contract: the refusal of the reader, or the search of what was read. Assumes nothing.
 use mathlib.Core.Path.{refl}
-use borrow.Author.Rules.{rules}
 use Rattle.encoding.specs.Encoding.{empty_index}
 use Rattle.pipe.specs.ReachingLaws.{refused-reached, accepted-searchable, accepted-reached}
 use Rattle.pipe.proofs.search_sheet.Goals as goal

@@ -1,6 +1,5 @@
 -- `rows::in_range` meets its contract, by what its tests say of the number. Assumes nothing.
 use Rattle.rows.proofs.RowTests.{negative-out, below_out, from_low}
-use borrow.Author.Rules.{rules}
 use Rattle.rows.proofs.in_range.Goals as goal
 
 pub returns-then-w-eq1 : goal.returns-then-w-eq1

@@ -6,8 +6,6 @@ use native.Mathlib.Omega.{arith}
 use Rattle.definitions.specs.Questions.{within, rank}
 use Rattle.encoding.specs.Signs.{number_of}
 use Rattle.rows.proofs.RowTests.{first_kind, no-first-kind, no-later-kind, rank-over, rank_falls, later-kind}
-use borrow.Author.Rules.{rules}
-use borrow.Author.Tests.{not-true, not-false}
 use Rattle.rows.proofs.kind_here.Goals as goal
 
 pub returns-then-in_range : goal.returns-then-in_range

@@ -1,9 +1,5 @@
 -- `rows::line_end` meets its contract: what is left of the line from a place on, added to the place, stays the same. Assumes nothing.
-use Prim.Native.Nat.{◌+◌, ◌-◌, ◌≤◌}
-use mathlib.Core.Path.{◌≡◌}
 use native.Mathlib.Omega.{arith}
-use lib.ListN.{length, drop}
-use Rattle.rows.specs.Rows.{line_length}
 use Rattle.rows.proofs.RowLoops.{line-here, line_on, line-over}
 use borrow.Author.Rules.{rules}
 use Rattle.rows.proofs.line_end.Goals as goal

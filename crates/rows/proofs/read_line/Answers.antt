@@ -3,11 +3,9 @@ use Prim.Native.Nat.{◌-◌}
 use mathlib.Core.Path.{◌≡◌, sym, ◌∙◌}
 use mathlib.Core.Bool.{true}
 use native.Mathlib.Omega.{arith}
-use borrow.Author.Tests.{not-true, not-false}
 use Rattle.definitions.specs.Questions.{good_length}
 use Rattle.rows.specs.Rows.{row_count, start_count}
 use Rattle.rows.proofs.RowQuestions.{good-columns, no_end, bad-length, bad-column, bad_kind, line-start}
-use borrow.Author.Rules.{rules}
 use Rattle.rows.proofs.read_line.Goals as goal
 
 pub returns-then-end-sheet : goal.returns-then-end-sheet

@@ -1,11 +1,9 @@
 -- `rows::read_row` meets its contract: what the line comes to stays the same while numbers take the place of its filled columns. Assumes nothing.
-use Prim.Native.Nat.{◌-◌}
 use mathlib.Core.Path.{sym}
-use mathlib.Core.Logic.{⊎_elim}
 use native.Mathlib.Omega.{arith}
 use Rattle.column.specs.Column.{column_of, size_of}
 use Rattle.rows.specs.Rows.{row_asked, row_count}
-use Rattle.rows.proofs.RowLoops.{RowUpTo, row-start, row_number, row-blank, row-fault, row-end}
+use Rattle.rows.proofs.RowLoops.{row-start, row_number, row-blank, row-fault, row-end}
 use borrow.Author.Rules.{rules}
 use Rattle.rows.proofs.read_row.Goals as goal
 use Rattle.rows.proofs.read_row.Goals.{in-Number, in-Nothing}

@@ -1,7 +1,6 @@
 -- `rows::row_kind` meets its contract: the first number tells, if there is one. Assumes nothing.
 use mathlib.Core.Path.{◌∙◌}
 use Rattle.rows.proofs.RowTests.{no_kind, first-number}
-use borrow.Author.Rules.{rules}
 use Rattle.rows.proofs.row_kind.Goals as goal
 
 pub returns-then-filled-gt0 : goal.returns-then-filled-gt0

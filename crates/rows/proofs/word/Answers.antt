@@ -1,6 +1,5 @@
 -- `rows::word` meets its contract, by the sign. Assumes nothing.
 use Rattle.encoding.specs.Signs.{word_of}
-use borrow.Author.Rules.{rules}
 use Rattle.rows.proofs.word.Goals as goal
 
 pub returns-then-negative : goal.returns-then-negative

@@ -1,6 +1,5 @@
 -- `sheet::line_of_kind` meets its contract, by the kind. Assumes nothing.
 use Rattle.sheet.proofs.LineKinds.{line-of-constants, line-of-symbol, line-of-rule, line-of-two-way, line-of-clause}
-use borrow.Author.Rules.{rules}
 use Rattle.sheet.proofs.line_of_kind.Goals as goal
 
 pub returns-then-kind-eq1 : goal.returns-then-kind-eq1

@@ -1,11 +1,8 @@
 -- `sheet::read_sheet` meets its contract: the sheet from the next line on, read behind the lines so far, comes to what all of it comes to. Assumes nothing.
-use Prim.Native.Nat.{◌-◌}
 use native.Mathlib.Omega.{arith}
-use lib.ListN.{length}
-use Rattle.encoding.specs.Encoding.{Arrays, arrays}
+use Rattle.encoding.specs.Encoding.{arrays}
 use Rattle.rows.specs.Rows.{start_count}
-use Rattle.sheet.proofs.Sheets.{read-long, read-empty, line-inside, ReadUpTo, reached-start, reached-end, Starts, reached-ready, start-stop, line-stop, reached-next}
-use borrow.Author.Rules.{rules}
+use Rattle.sheet.proofs.Sheets.{read-long, read-empty, line-inside, reached-start, reached-end, Starts, reached-ready, start-stop, line-stop, reached-next}
 use Rattle.sheet.proofs.read_sheet.Goals as goal
 
 pub returns-then-sheet-gt-SHEET_BYTES : goal.returns-then-sheet-gt-SHEET_BYTES
@@ -24,7 +21,7 @@ read_line-requires c = line-inside _ _ _ c.loop-from-test.true c.line_end-end.en
 pub returns-in-No : goal.returns-in-No
 returns-in-No c =
     let line : Starts c.args.sheet.now c.loop-from.before c.loop-from.from c.line_end-end.result c.read_line.result c.read_line.new.row =
-        record { more = c.loop-from-test.true; ends = c.line_end-end.ensures; asked = c.read_line.ensures.reads }
+    record { more = c.loop-from-test.true; ends = c.line_end-end.ensures; asked = c.read_line.ensures.reads }
     in
     rw (start-stop c.loop-from.invariant line c.in-No.is)
 
@@ -36,7 +33,7 @@ line_of_kind-requires c =
 pub returns-in-No-line_of_kind : goal.returns-in-No-line_of_kind
 returns-in-No-line_of_kind c =
     let line : Starts c.args.sheet.now c.loop-from.before c.loop-from.from c.line_end-end.result c.read_line.result c.read_line.new.row =
-        record { more = c.loop-from-test.true; ends = c.line_end-end.ensures; asked = c.read_line.ensures.reads }
+    record { more = c.loop-from-test.true; ends = c.line_end-end.ensures; asked = c.read_line.ensures.reads }
     in
     let after = c.line_of_kind.new in
     rw (line-stop c.loop-from.invariant line c.in-Kind.is _ (arrays after.arities after.rules after.starts after.literals after.table after.index) c.line_of_kind.ensures c.in-No-line_of_kind.is)
@@ -44,28 +41,28 @@ returns-in-No-line_of_kind c =
 pub overflow_add-from : goal.overflow_add-from
 overflow_add-from c =
     let line : Starts c.args.sheet.now c.loop-from.before c.loop-from.from c.line_end-end.result c.read_line.result c.read_line.new.row =
-        record { more = c.loop-from-test.true; ends = c.line_end-end.ensures; asked = c.read_line.ensures.reads }
+    record { more = c.loop-from-test.true; ends = c.line_end-end.ensures; asked = c.read_line.ensures.reads }
     in
     omega (arith, c.loop-from.invariant.short, line-inside _ _ _ line.more line.ends)
 
 pub overflow_add-line : goal.overflow_add-line
 overflow_add-line c =
     let line : Starts c.args.sheet.now c.loop-from.before c.loop-from.from c.line_end-end.result c.read_line.result c.read_line.new.row =
-        record { more = c.loop-from-test.true; ends = c.line_end-end.ensures; asked = c.read_line.ensures.reads }
+    record { more = c.loop-from-test.true; ends = c.line_end-end.ensures; asked = c.read_line.ensures.reads }
     in
     let inv = c.loop-from.invariant in omega (arith, inv.short, inv.counted, line.more)
 
 pub loop-from-smaller : goal.loop-from-smaller
 loop-from-smaller c =
     let line : Starts c.args.sheet.now c.loop-from.before c.loop-from.from c.line_end-end.result c.read_line.result c.read_line.new.row =
-        record { more = c.loop-from-test.true; ends = c.line_end-end.ensures; asked = c.read_line.ensures.reads }
+    record { more = c.loop-from-test.true; ends = c.line_end-end.ensures; asked = c.read_line.ensures.reads }
     in
     omega (arith, line.more, line-inside _ _ _ line.more line.ends)
 
 pub loop-from-preserved : goal.loop-from-preserved
 loop-from-preserved c =
     let line : Starts c.args.sheet.now c.loop-from.before c.loop-from.from c.line_end-end.result c.read_line.result c.read_line.new.row =
-        record { more = c.loop-from-test.true; ends = c.line_end-end.ensures; asked = c.read_line.ensures.reads }
+    record { more = c.loop-from-test.true; ends = c.line_end-end.ensures; asked = c.read_line.ensures.reads }
     in
     let after = c.line_of_kind.new in
     reached-next c.loop-from.invariant line c.in-Kind.is _ (arrays after.arities after.rules after.starts after.literals after.table after.index) c.line_of_kind.ensures c.in-Yes.is

@@ -1,5 +1,4 @@
 -- `solver::list` meets its contract: the length and the room of both calls in one. Assumes nothing.
-use borrow.Author.Rules.{rules}
 use Rattle.definitions.specs.Call.{listed_part, room_after}
 use Rattle.solver.proofs.list.Goals as goal
 

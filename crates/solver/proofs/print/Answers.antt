@@ -1,7 +1,6 @@
 -- `solver::print` meets its contract: nothing where the room is too small, or the line of a refusal, or an answer's listing. Assumes nothing.
 use mathlib.Core.Path.{refl}
 use native.Mathlib.Omega.{arith}
-use borrow.Author.Rules.{rules}
 use Rattle.definitions.specs.Call.{listing_of, written}
 use Rattle.theory.specs.CallLaws.{small-part}
 use Rattle.solver.specs.PrintLaws.{refusal-length, print-answer, print-refusal, unlisted, printed-result, printed-alike, result-ends}
@@ -23,8 +22,8 @@ returns-in-Refused c =
     let e = c.solve_both-solved in
     let a = c.args in
     let whole =
-        printed-alike a.room.now (printed-result a.sheet.now a.budget a.room.now (omega arith))
-        (print-refusal listing_of unlisted _ (result-ends a.sheet.now a.budget a.room.now) _ (omega arith) e.ensures.answer e.ensures.size e.ensures.stored _ c.in-Refused.is _ _ c.put_refusal.ensures)
+    printed-alike a.room.now (printed-result a.sheet.now a.budget a.room.now (omega arith))
+    (print-refusal listing_of unlisted _ (result-ends a.sheet.now a.budget a.room.now) _ (omega arith) e.ensures.answer e.ensures.size e.ensures.stored _ c.in-Refused.is _ _ c.put_refusal.ensures)
     in
     record { length = whole.0; room = whole.1 }
 
@@ -33,7 +32,7 @@ returns-in-Answered c =
     let e = c.solve_both-solved in
     let a = c.args in
     let whole =
-        printed-alike a.room.now (printed-result a.sheet.now a.budget a.room.now (omega arith))
-        (print-answer listing_of unlisted _ (result-ends a.sheet.now a.budget a.room.now) _ (omega arith) e.ensures.answer e.ensures.size e.ensures.stored _ c.in-Answered.is)
+    printed-alike a.room.now (printed-result a.sheet.now a.budget a.room.now (omega arith))
+    (print-answer listing_of unlisted _ (result-ends a.sheet.now a.budget a.room.now) _ (omega arith) e.ensures.answer e.ensures.size e.ensures.stored _ c.in-Answered.is)
     in
     record { length = whole.0; room = whole.1 }

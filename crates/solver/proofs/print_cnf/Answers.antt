@@ -1,6 +1,5 @@
 -- `solver::print_cnf` meets its contract: an answer's text, or the line of a refusal. Assumes nothing.
 use native.Mathlib.Omega.{arith}
-use borrow.Author.Rules.{rules}
 use Rattle.definitions.specs.Questions.{read}
 use Rattle.definitions.specs.Export.{export_of, export_call, export_text, export_after}
 use Rattle.theory.specs.ExportLaws.{refused-text}
@@ -18,8 +17,8 @@ returns-in-Answered c =
     let a = c.args in
     let made = export_of (read a.sheet.now) in
     let whole =
-        printed-alike a.cnf.now (printed-export a.sheet.now a.budget _ a.cnf.now (omega arith) (omega arith))
-        (print-answer made (refused-text (read a.sheet.now)) _ (export-ends a.sheet.now a.budget _ a.cnf.now) _ (omega arith) c.export-exported.ensures.answer c.export-exported.ensures.length c.export-exported.ensures.cnf _ c.in-Answered.is)
+    printed-alike a.cnf.now (printed-export a.sheet.now a.budget _ a.cnf.now (omega arith) (omega arith))
+    (print-answer made (refused-text (read a.sheet.now)) _ (export-ends a.sheet.now a.budget _ a.cnf.now) _ (omega arith) c.export-exported.ensures.answer c.export-exported.ensures.length c.export-exported.ensures.cnf _ c.in-Answered.is)
     in
     record { length = whole.0; cnf = whole.1 }
 
@@ -29,7 +28,7 @@ returns-in-Refused c =
     let a = c.args in
     let made = export_of (read a.sheet.now) in
     let whole =
-        printed-alike a.cnf.now (printed-export a.sheet.now a.budget _ a.cnf.now (omega arith) (omega arith))
-        (print-refusal made (refused-text (read a.sheet.now)) _ (export-ends a.sheet.now a.budget _ a.cnf.now) _ (omega arith) c.export-exported.ensures.answer c.export-exported.ensures.length c.export-exported.ensures.cnf _ c.in-Refused.is _ _ c.put_refusal.ensures)
+    printed-alike a.cnf.now (printed-export a.sheet.now a.budget _ a.cnf.now (omega arith) (omega arith))
+    (print-refusal made (refused-text (read a.sheet.now)) _ (export-ends a.sheet.now a.budget _ a.cnf.now) _ (omega arith) c.export-exported.ensures.answer c.export-exported.ensures.length c.export-exported.ensures.cnf _ c.in-Refused.is _ _ c.put_refusal.ensures)
     in
     record { length = whole.0; cnf = whole.1 }

@@ -1,5 +1,4 @@
 -- `solver::solve` meets its contract: the answer of both calls in one. Assumes nothing.
-use borrow.Author.Rules.{rules}
 use Rattle.definitions.specs.Call.{call, room_after}
 use Rattle.solver.proofs.solve.Goals as goal
 

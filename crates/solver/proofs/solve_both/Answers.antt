@@ -1,6 +1,5 @@
 -- `solver::solve_both` meets its contract: the questions about what is lent, and then the sheet's. Assumes nothing.
 use mathlib.Core.Bool.{false≢true}
-use borrow.Author.Rules.{rules}
 use Rattle.solver.specs.LentLaws.{lent-room, short-solved, enough-solved}
 use Rattle.solver.proofs.solve_both.Goals as goal
 

@@ -1,8 +1,6 @@
 -- `solver::solve_listing` meets its contract: the front of the room that `list` left, as long as the listing. Assumes nothing.
 use mathlib.Core.Path.{refl, sym}
-use lib.ListN.{length}
 use lib.Seq.{length-take-le}
-use borrow.Author.Rules.{rules}
 use Rattle.definitions.specs.Call.{listed_part, room_after}
 use Rattle.solver.specs.LentLaws.{written-fits, written-front}
 use Rattle.solver.proofs.solve_listing.Goals as goal

@@ -1,6 +1,5 @@
 -- `long::has_bit` meets its contract: the bit by a shift. Assumes nothing.
 use mathlib.Core.Path.{sym}
-use borrow.Author.Rules.{rules}
 use Rattle.bits.specs.Bits.{has-shift}
 use Rattle.bits.proofs.long.has_bit.Goals as goal
 

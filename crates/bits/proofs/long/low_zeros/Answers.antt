@@ -1,7 +1,6 @@
 -- `long::low_zeros` meets its contract. Assumes nothing.
 use native.Mathlib.Omega.{arith}
 use lib.Count.{trailing_le}
-use borrow.Author.Rules.{rules}
 use Rattle.bits.proofs.long.low_zeros.Goals as goal
 
 pub returns : goal.returns

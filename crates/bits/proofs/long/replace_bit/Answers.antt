@@ -1,5 +1,4 @@
 -- `long::replace_bit` meets its contract. Assumes nothing.
-use borrow.Author.Rules.{rules}
 use lib.Bits.{and_le_l}
 use Rattle.bits.specs.Bits.{replace_bit, one_shifted, bit_shifted}
 use Rattle.bits.proofs.long.replace_bit.Goals as goal

@@ -2,7 +2,6 @@
 use native.Mathlib.Omega.{arith}
 use Rattle.cnf_reader.specs.Lines.{line_end}
 use Rattle.cnf_reader.proofs.ClauseLines.{close-read, close-none}
-use borrow.Author.Rules.{rules}
 use Rattle.cnf_reader.proofs.clause_lines.close_at.Goals as goal
 
 pub returns-in-At : goal.returns-in-At

@@ -3,7 +3,6 @@ use native.Mathlib.Omega.{arith}
 use Rattle.cnf_reader.specs.Parts.{decimal_size}
 use Rattle.cnf_reader.specs.Lines.{literal_size}
 use Rattle.cnf_reader.proofs.ClauseLines.{literal-none, literal-turn}
-use borrow.Author.Rules.{rules}
 use Rattle.cnf_reader.proofs.clause_lines.literal_at.Goals as goal
 
 pub returns-in-Decimal : goal.returns-in-Decimal

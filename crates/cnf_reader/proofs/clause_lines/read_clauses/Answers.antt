@@ -1,13 +1,9 @@
 -- `clause_lines::read_clauses` meets its contract: whatever reads the clauses that are left, with those that stand reads all of them. Assumes nothing.
-use Prim.Native.Nat.{ℕ, ◌+◌, ◌-◌, ◌*◌, ◌≤◌}
+use Prim.Native.Nat.{◌+◌, ◌-◌}
 use mathlib.Core.Path.{◌≡◌}
-use mathlib.Core.Bool.{Bool}
-use mathlib.Core.List.{List}
 use native.Mathlib.Omega.{arith}
-use lib.ListN.{drop}
 use borrow.Author.Rules.{rules}
-use Rattle.definitions.specs.Dimacs.{clauses_at}
-use Rattle.cnf_reader.specs.Lines.{line_end, ClausesRead}
+use Rattle.cnf_reader.specs.Lines.{line_end}
 use Rattle.cnf_reader.proofs.Clauses.{clauses-end, clauses-none, clauses-turn}
 use Rattle.cnf_reader.proofs.clause_lines.read_clauses.Goals as goal
 

@@ -1,16 +1,11 @@
 -- `clause_lines::read_line` meets its contract: whatever reads the rest of the line, with the words that stand reads all of it. Assumes nothing.
-use Prim.Native.Nat.{ℕ, ◌+◌, ◌-◌, ◌≤◌}
-use mathlib.Core.Path.{◌≡◌, sym, ◌∙◌}
+use Prim.Native.Nat.{ℕ, ◌+◌, ◌≤◌}
+use mathlib.Core.Path.{◌≡◌}
 use mathlib.Core.List.{List}
-use native.Mathlib.Omega.{arith}
 use lib.ListN.{drop}
-use borrow.Author.Rules.{rules}
 use Rattle.definitions.specs.Dimacs.{clause_line_at}
-use Rattle.cnf_reader.specs.CnfArrays.{number_word}
-use Rattle.cnf_reader.specs.Lines.{CnfLineRead, literal_size, line_end}
+use Rattle.cnf_reader.specs.Lines.{CnfLineRead}
 use Rattle.cnf_reader.specs.declared.clause_lines.LineAt.{LineAt}
-use Rattle.cnf_reader.specs.declared.clause_lines.LineAt.TheVariants.{NoLine}
-use Rattle.cnf_reader.proofs.ClauseLines.{line-full, line-close, line-none, line-turn}
 use Rattle.cnf_reader.proofs.clause_lines.read_line.Given as goal
 
 abbrev pub invariant-loop-left : goal.invariant-loop-left

@@ -1,6 +1,5 @@
 -- `clause_lines::sign_at` meets its contract: behind the end, at a minus, and at another byte. Assumes nothing.
 use Rattle.cnf_reader.proofs.ClauseLines.{sign-end, sign-minus, sign-none}
-use borrow.Author.Rules.{rules}
 use Rattle.cnf_reader.proofs.clause_lines.sign_at.Goals as goal
 
 pub returns-then-text-at : goal.returns-then-text-at

@@ -1,6 +1,5 @@
 -- `clause_lines::word` meets its contract, by the sign. Assumes nothing.
 use Rattle.encoding.specs.Signs.{word_of}
-use borrow.Author.Rules.{rules}
 use Rattle.cnf_reader.proofs.clause_lines.word.Goals as goal
 
 pub returns-then-negative : goal.returns-then-negative

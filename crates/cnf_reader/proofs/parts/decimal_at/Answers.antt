@@ -2,7 +2,6 @@
 use native.Mathlib.Omega.{arith}
 use Rattle.cnf_reader.specs.Parts.{decimal_size}
 use Rattle.cnf_reader.proofs.Places.{decimal-end, decimal-low, decimal-high, decimal-zero, decimal-digits}
-use borrow.Author.Rules.{rules}
 use Rattle.cnf_reader.proofs.parts.decimal_at.Goals as goal
 
 pub returns-then-text-at : goal.returns-then-text-at
@@ -24,5 +23,8 @@ returns-then-b-eq48 c = record { reads = λ q. decimal-zero _ _ q c.if-text-at.f
 pub returns : goal.returns
 unfolding decimal_size
 returns c =
-    let two = c.with_digit-two in record { reads = λ q. decimal-digits _ _ q c.if-text-at.false c.if-b-lt48.false c.if-b-gt57.false c.if-b-eq48.false
-          two.result.size two.result.next _ _ two.ensures.0 c.with_digit-three.ensures.0; small = omega arith }
+    let two = c.with_digit-two in record {
+      reads = λ q. decimal-digits _ _ q c.if-text-at.false c.if-b-lt48.false c.if-b-gt57.false c.if-b-eq48.false
+          two.result.size two.result.next _ _ two.ensures.0 c.with_digit-three.ensures.0;
+      small = omega arith;
+    }

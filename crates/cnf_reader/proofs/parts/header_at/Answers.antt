@@ -3,7 +3,6 @@ use native.Mathlib.Omega.{arith}
 use Rattle.definitions.specs.Text.{bytes}
 use Rattle.cnf_reader.specs.Parts.{decimal_size, header_clauses}
 use Rattle.cnf_reader.proofs.Numbers.{header-unnamed, header-no-atoms, header-no-clauses, header-named}
-use borrow.Author.Rules.{rules}
 use Rattle.cnf_reader.proofs.parts.header_at.Goals as goal
 
 pub returns-in_default : goal.returns-in_default

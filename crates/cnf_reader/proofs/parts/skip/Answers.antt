@@ -1,6 +1,5 @@
 -- `parts::skip` meets its contract: behind the end, at the byte, and at another one. Assumes nothing.
 use Rattle.cnf_reader.proofs.Places.{skip-end, skip-byte, skip-other}
-use borrow.Author.Rules.{rules}
 use Rattle.cnf_reader.proofs.parts.skip.Goals as goal
 
 pub returns-then-text-at : goal.returns-then-text-at

@@ -1,7 +1,5 @@
 -- `parts::skip_all` meets its contract: what the bytes that are left come to stays the same. Assumes nothing.
-use Prim.Native.Nat.{ℕ, ◌-◌, ◌≤◌}
-use mathlib.Core.Path.{◌≡◌, ◌∙◌, refl}
-use lib.ListN.{length}
+use mathlib.Core.Path.{◌∙◌, refl}
 use Rattle.cnf_reader.proofs.Places.{expects_from, expects-turn, expects-nowhere, expects-end}
 use borrow.Author.Rules.{rules}
 use Rattle.cnf_reader.proofs.parts.skip_all.Goals as goal

@@ -1,9 +1,8 @@
 -- `parts::skip_all` meets its contract: what the bytes that are left come to stays the same. Assumes nothing.
 use Prim.Native.Nat.{ℕ, ◌-◌, ◌≤◌}
-use mathlib.Core.Path.{◌≡◌, ◌∙◌, refl}
+use mathlib.Core.Path.{◌≡◌}
 use lib.ListN.{length}
-use Rattle.cnf_reader.proofs.Places.{expects_from, expects-turn, expects-nowhere, expects-end}
-use borrow.Author.Rules.{rules}
+use Rattle.cnf_reader.proofs.Places.{expects_from}
 use Rattle.cnf_reader.proofs.parts.skip_all.Given as goal
 
 abbrev pub invariant-loop-i : goal.invariant-loop-i

@@ -1,6 +1,5 @@
 -- `parts::stands` meets its contract: behind the end, and at a byte. Assumes nothing.
 use Rattle.cnf_reader.proofs.Places.{stands-nowhere, stands_here}
-use borrow.Author.Rules.{rules}
 use Rattle.cnf_reader.proofs.parts.stands.Goals as goal
 
 pub returns-then-text-at : goal.returns-then-text-at

@@ -1,7 +1,6 @@
 -- `parts::with_digit` meets its contract: behind the end, below, above and among the digits. Assumes nothing.
 use native.Mathlib.Omega.{arith}
 use Rattle.cnf_reader.proofs.Places.{no-digit-end, no-digit-low, no-digit-high, digit-more}
-use borrow.Author.Rules.{rules}
 use Rattle.cnf_reader.proofs.parts.with_digit.Goals as goal
 
 pub returns-then-text-at : goal.returns-then-text-at

@@ -1,7 +1,6 @@
 -- `asking::act_at` meets its contract: by the clause's number, and by the place of the first word that is not false. Assumes nothing.
 use Prim.Native.Nat.{◌<◌}
 use native.Mathlib.Omega.{arith}
-use borrow.Author.Rules.{rules}
 use Rattle.encoding.specs.Lengths.{literal_array}
 use Rattle.counters.proofs.ClauseTurns.{act-conflict, clause-within, place-within, act-force, act-not}
 use Rattle.counters.proofs.asking.act_at.Goals as goal
@@ -16,16 +15,16 @@ first_open-at-requires c =
 pub offset_bounds-literals-at : goal.offset_bounds-literals-at
 offset_bounds-literals-at c =
     let within : c.first_open-at.result < literal_array =
-        let pre = c.requires in
-        place-within _ pre.1 c.wide-from.ensures.0 c.wide-end.ensures.0 _ pre.2 pre.3 c.if-counts-c-eq0.false c.first_open-at.ensures
+    let pre = c.requires in
+    place-within _ pre.1 c.wide-from.ensures.0 c.wide-end.ensures.0 _ pre.2 pre.3 c.if-counts-c-eq0.false c.first_open-at.ensures
     in
     omega (arith, within)
 
 pub bounds-literals-at : goal.bounds-literals-at
 bounds-literals-at c =
     let within : c.first_open-at.result < literal_array =
-        let pre = c.requires in
-        place-within _ pre.1 c.wide-from.ensures.0 c.wide-end.ensures.0 _ pre.2 pre.3 c.if-counts-c-eq0.false c.first_open-at.ensures
+    let pre = c.requires in
+    place-within _ pre.1 c.wide-from.ensures.0 c.wide-end.ensures.0 _ pre.2 pre.3 c.if-counts-c-eq0.false c.first_open-at.ensures
     in
     within
 

@@ -1,9 +1,6 @@
 -- `asking::first_open` meets its contract. The place, with the false words that are still to come, stays the same. Assumes nothing.
-use Prim.Native.Nat.{◌+◌, ◌-◌, ◌≤◌}
-use mathlib.Core.Path.{◌≡◌, refl}
+use mathlib.Core.Path.{refl}
 use native.Mathlib.Omega.{arith}
-use lib.ListN.{take, drop}
-use Rattle.counters.specs.ByNumber.{first_open}
 use Rattle.counters.proofs.ClauseTurns.{open_turn, open-hit, open-end}
 use Rattle.std.proofs.Common.{ap, not}
 use Rattle.counters.proofs.asking.first_open.Goals as goal

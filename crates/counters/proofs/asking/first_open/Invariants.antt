@@ -1,10 +1,8 @@
 -- `asking::first_open` meets its contract. The place, with the false words that are still to come, stays the same. Assumes nothing.
 use Prim.Native.Nat.{◌+◌, ◌-◌, ◌≤◌}
-use mathlib.Core.Path.{◌≡◌, refl}
-use native.Mathlib.Omega.{arith}
+use mathlib.Core.Path.{◌≡◌}
 use lib.ListN.{take, drop}
 use Rattle.counters.specs.ByNumber.{first_open}
-use Rattle.counters.proofs.ClauseTurns.{open_turn, open-hit, open-end}
 use Rattle.counters.proofs.asking.first_open.Given as goal
 
 abbrev pub invariant-loop-i : goal.invariant-loop-i

@@ -1,5 +1,4 @@
 -- `asking::may_set` meets its contract: a goal atom, a goal clause, or a place behind the heads of a logged one. Assumes nothing.
-use borrow.Author.Rules.{rules}
 use Rattle.counters.proofs.ClauseTurns.{may-goal, may-not, may-behind}
 use Rattle.counters.proofs.asking.may_set.Goals as goal
 

@@ -1,13 +1,9 @@
 -- `asking::next_act` meets its contract. The first act of the clauses from the next that asks on is the first act of all. Assumes nothing.
-use Prim.Native.Nat.{◌+◌, ◌-◌, ◌≤◌, ◌<◌}
+use Prim.Native.Nat.{◌-◌, ◌≤◌, ◌<◌}
 use mathlib.Core.Path.{◌≡◌}
 use mathlib.Core.Bool.{true}
-use native.Mathlib.Omega.{arith}
 use Rattle.bits.specs.Bits.{among}
 use Rattle.units.specs.Units.{act_from}
-use Rattle.counters.specs.Asking.{its-number, asks-few, ask-next}
-use Rattle.counters.proofs.ActTurns.{fit-first, act-start, act-turn, act-hit, act-hit-force, act-end}
-use borrow.Author.Rules.{rules}
 use Rattle.counters.proofs.asking.next_act.Given as goal
 
 abbrev pub invariant-loop-c : goal.invariant-loop-c

@@ -1,8 +1,6 @@
 -- `asking::next_asking` meets its contract: word by word, the lowest bit that is set. Assumes nothing.
-use Prim.Native.Nat.{◌-◌, ◌≤◌}
 use native.Mathlib.Omega.{arith}
-use Rattle.counters.specs.Asking.{Unasked, none_here, next_here}
-use borrow.Author.Rules.{rules}
+use Rattle.counters.specs.Asking.{none_here, next_here}
 use Rattle.counters.proofs.asking.next_asking.Goals as goal
 
 pub loop-i-init : goal.loop-i-init

@@ -1,11 +1,7 @@
 -- `entering::enter_all` meets its contract, clause by clause. Assumes nothing.
-use Prim.Native.Nat.{◌-◌, ◌≤◌}
 use mathlib.Core.Path.{◌≡◌}
 use native.Mathlib.Omega.{arith}
-use Rattle.units.specs.Units.{clause_at}
-use Rattle.counters.specs.Counters.{counters, counters_of}
 use Rattle.counters.specs.Entering.{clause-inside, clause-part}
-use borrow.Author.Rules.{rules}
 use Rattle.counters.proofs.entering.enter_all.Goals as goal
 
 pub loop-c-init : goal.loop-c-init

@@ -1,11 +1,8 @@
 -- `entering::enter_all` meets its contract, clause by clause. Assumes nothing.
 use Prim.Native.Nat.{◌-◌, ◌≤◌}
 use mathlib.Core.Path.{◌≡◌}
-use native.Mathlib.Omega.{arith}
 use Rattle.units.specs.Units.{clause_at}
 use Rattle.counters.specs.Counters.{counters, counters_of}
-use Rattle.counters.specs.Entering.{clause-inside, clause-part}
-use borrow.Author.Rules.{rules}
 use Rattle.counters.proofs.entering.enter_all.Given as goal
 
 abbrev pub invariant-loop-c : goal.invariant-loop-c

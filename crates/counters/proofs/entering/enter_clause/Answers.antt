@@ -1,7 +1,6 @@
 -- `entering::enter_clause` meets its contract: the rows, then the number and the bit of those that ask. Assumes nothing.
 use native.Mathlib.Omega.{arith}
 use Rattle.counters.specs.Entering.{words-free, ask-room, entered-as}
-use borrow.Author.Rules.{rules}
 use Rattle.counters.proofs.entering.enter_clause.Goals as goal
 
 pub enter_words-n-requires : goal.enter_words-n-requires

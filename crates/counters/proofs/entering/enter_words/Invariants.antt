@@ -1,10 +1,7 @@
 -- `entering::enter_words` meets its contract, word by word. Assumes nothing.
 use Prim.Native.Nat.{◌-◌, ◌*◌, ◌≤◌}
-use mathlib.Core.Path.{◌≡◌}
-use native.Mathlib.Omega.{arith}
 use Rattle.counters.specs.Weights.{weighs}
-use Rattle.counters.specs.Entering.{Entering, part, part-start, enter-start, turn-again, turn-room, turn-new}
-use borrow.Author.Rules.{rules}
+use Rattle.counters.specs.Entering.{Entering, part}
 use Rattle.counters.proofs.entering.enter_words.Given as goal
 
 abbrev pub invariant-loop-i : goal.invariant-loop-i

@@ -1,6 +1,5 @@
 -- `kept::count_set` meets its contract: a pass over the literal's clauses, then one over its negation's. Assumes nothing.
 use Rattle.counters.specs.Setting.{set-needs, set-needs-2, set-done}
-use borrow.Author.Rules.{rules}
 use Rattle.counters.proofs.kept.count_set.Goals as goal
 
 pub over_row-requires : goal.over_row-requires

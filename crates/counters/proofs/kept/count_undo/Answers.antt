@@ -1,6 +1,5 @@
 -- `kept::count_undo` meets its contract: a pass over the clauses of the literal's negation, then one over its own. Assumes nothing.
 use Rattle.counters.specs.Setting.{undo-needs, undo-needs-2, undo-done}
-use borrow.Author.Rules.{rules}
 use Rattle.counters.proofs.kept.count_undo.Goals as goal
 
 pub over_row-requires : goal.over_row-requires

@@ -1,10 +1,7 @@
 -- `kept::undo_counts` meets its contract. For whatever values stood at first, the counters are those of the values that are left. Assumes nothing.
 use Prim.Native.Nat.{◌-◌, ◌≤◌}
-use mathlib.Core.Path.{refl}
-use native.Mathlib.Omega.{arith}
 use Rattle.counters.specs.Counters.{counters}
-use Rattle.counters.specs.Undoing.{SoFar, far-start, far-small, far-fits, far-turn, far-end}
-use borrow.Author.Rules.{rules}
+use Rattle.counters.specs.Undoing.{SoFar}
 use Rattle.counters.proofs.kept.undo_counts.Given as goal
 
 abbrev pub invariant-loop-i : goal.invariant-loop-i

@@ -1,11 +1,8 @@
 -- `passes::over_row` meets its contract, word by word. Assumes nothing.
-use Prim.Native.Nat.{◌-◌, ◌≤◌}
 use mathlib.Core.Path.{◌≡◌, refl, ◌∙◌}
 use native.Mathlib.Omega.{arith}
 use lib.Bits.{and_le_l}
-use Rattle.counters.specs.PlacesKept.{Moved}
-use Rattle.counters.specs.Passes.{first_of, pass-start, pass-over, pass_fits, pass-turn}
-use borrow.Author.Rules.{rules}
+use Rattle.counters.specs.Passes.{pass-start, pass-over, pass_fits, pass-turn}
 use Rattle.counters.proofs.passes.over_row.Goals as goal
 
 pub loop-k-init : goal.loop-k-init

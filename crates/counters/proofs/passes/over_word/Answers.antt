@@ -1,7 +1,6 @@
 -- `passes::over_word` meets its contract, bit by bit from the lowest. Assumes nothing.
 use native.Mathlib.Omega.{arith}
-use Rattle.counters.specs.Passes.{WordDone, word-start, word_end, word_in, word_fits, word-turn}
-use borrow.Author.Rules.{rules}
+use Rattle.counters.specs.Passes.{word-start, word_end, word_in, word_fits, word-turn}
 use Rattle.counters.proofs.passes.over_word.Goals as goal
 
 pub loop-m-init : goal.loop-m-init

@@ -1,8 +1,4 @@
 -- `slots::has_term` meets its contract: what is left of the slots has the term exactly where all of them have it. Assumes nothing.
-use Prim.Native.Nat.{◌≤◌, ◌-◌}
-use mathlib.Core.Path.{◌≡◌}
-use lib.ListN.{length, drop}
-use Rattle.encoding.specs.Slots.{has_term}
 use Rattle.encoding.proofs.TermLaws.{term-first, term-second, term-third, term-later, term-end}
 use borrow.Author.Rules.{rules}
 use Rattle.encoding.proofs.slots.has_term.Goals as goal

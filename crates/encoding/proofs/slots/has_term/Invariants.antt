@@ -3,8 +3,6 @@ use Prim.Native.Nat.{◌≤◌, ◌-◌}
 use mathlib.Core.Path.{◌≡◌}
 use lib.ListN.{length, drop}
 use Rattle.encoding.specs.Slots.{has_term}
-use Rattle.encoding.proofs.TermLaws.{term-first, term-second, term-third, term-later, term-end}
-use borrow.Author.Rules.{rules}
 use Rattle.encoding.proofs.slots.has_term.Given as goal
 
 abbrev pub invariant-loop-at : goal.invariant-loop-at

@@ -1,5 +1,4 @@
 -- `values::assign` meets its contract. Assumes nothing.
-use borrow.Author.Rules.{rules}
 use mathlib.Core.Path.{◌∙◌}
 use Rattle.encoding.proofs.ValueTests.{assigned-is}
 use Rattle.encoding.proofs.values.assign.Goals as goal

@@ -1,5 +1,4 @@
 -- `values::bit_in` meets its contract. Assumes nothing.
-use borrow.Author.Rules.{rules}
 use Rattle.encoding.proofs.ValueTests.{bit_is}
 use Rattle.encoding.proofs.values.bit_in.Goals as goal
 

@@ -1,5 +1,5 @@
 -- `values::is_false` meets its contract, by the value. Assumes nothing.
-use borrow.Author.Rules.{rules, sfits_of}
+use borrow.Author.Rules.{sfits_of}
 use Rattle.encoding.proofs.ValueTests.{false-is}
 use Rattle.encoding.proofs.values.is_false.Goals as goal
 

@@ -1,5 +1,5 @@
 -- `values::is_true` meets its contract, by the value. Assumes nothing.
-use borrow.Author.Rules.{rules, sfits_of}
+use borrow.Author.Rules.{sfits_of}
 use Rattle.encoding.proofs.ValueTests.{true-is}
 use Rattle.encoding.proofs.values.is_true.Goals as goal
 

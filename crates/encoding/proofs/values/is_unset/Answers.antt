@@ -1,5 +1,4 @@
 -- `values::is_unset` meets its contract. Assumes nothing.
-use borrow.Author.Rules.{rules}
 use Rattle.encoding.proofs.ValueTests.{unset-read}
 use Rattle.encoding.proofs.values.is_unset.Goals as goal
 

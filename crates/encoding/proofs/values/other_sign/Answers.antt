@@ -1,5 +1,4 @@
 -- `values::other_sign` meets its contract: an even word gets one more, an odd one one less. Assumes nothing.
-use borrow.Author.Rules.{rules}
 use Rattle.encoding.specs.ValueLaws.{other-even, other-odd}
 use Rattle.encoding.proofs.values.other_sign.Goals as goal
 

@@ -1,6 +1,5 @@
 -- `values::put_state` meets its contract: one store for each bit. Assumes nothing.
 use mathlib.Core.Path.{◌∙◌}
-use borrow.Author.Rules.{rules}
 use Rattle.encoding.specs.Values.{put_state}
 use Rattle.encoding.proofs.values.put_state.Goals as goal
 

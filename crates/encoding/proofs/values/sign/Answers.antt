@@ -2,7 +2,6 @@
 use Prim.Native.Nat.{◌%◌}
 use mathlib.Core.Path.{refl}
 use native.Mathlib.Omega.{arith}
-use borrow.Author.Rules.{rules}
 use Rattle.encoding.proofs.ValueTests.{twice-fits, less-twice-fits, sign-is}
 use Rattle.encoding.proofs.values.sign.Goals as goal
 

@@ -1,6 +1,5 @@
 -- `values::state_at` meets its contract. Assumes nothing.
 use mathlib.Core.Path.{◌∙◌}
-use borrow.Author.Rules.{rules}
 use mir.Syntax.{w8, w32}
 use mir.Facts.{sfits_widen, to_z-of_z}
 use Rattle.encoding.proofs.ValueTests.{state-fits, state-read}

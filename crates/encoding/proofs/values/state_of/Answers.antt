@@ -1,5 +1,4 @@
 -- `values::state_of` meets its contract, for each of the four pairs of bits. Assumes nothing.
-use borrow.Author.Rules.{rules}
 use Rattle.encoding.proofs.ValueTests.{twice-fits, state-computed}
 use Rattle.encoding.proofs.values.state_of.Goals as goal
 

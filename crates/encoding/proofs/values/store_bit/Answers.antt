@@ -1,5 +1,4 @@
 -- `values::store_bit` meets its contract. Assumes nothing.
-use borrow.Author.Rules.{rules}
 use Rattle.encoding.specs.Values.{store_bit}
 use Rattle.encoding.proofs.values.store_bit.Goals as goal
 

@@ -1,5 +1,4 @@
 -- `values::unassign` meets its contract. Assumes nothing.
-use borrow.Author.Rules.{rules}
 use mathlib.Core.Path.{◌∙◌}
 use Rattle.encoding.proofs.ValueTests.{unassigned-is}
 use Rattle.encoding.proofs.values.unassign.Goals as goal

@@ -1,5 +1,4 @@
 -- `values::value` meets its contract: a sign times a state fits, since a state is small. Assumes nothing.
-use borrow.Author.Rules.{rules}
 use Rattle.encoding.proofs.ValueTests.{state-fits, product-fits, product_is, value-is}
 use Rattle.encoding.proofs.values.value.Goals as goal
 

@@ -1,11 +1,5 @@
 -- `slots::fill_slots` meets its contract: the patterns found so far stand in the first slots. Assumes nothing.
-use Prim.Native.Nat.{◌-◌, ◌≤◌}
-use mathlib.Core.List.{map}
-use lib.ListN.{length, drop}
-use Rattle.definitions.specs.Questions.{literals, pattern_of}
-use Rattle.encoding.specs.Signs.{number_of}
-use Rattle.literals.specs.SlotReads.{argument}
-use Rattle.literals.proofs.Literals.{SlotsSoFar, literals_from, fill_start, fill-refused, fill-turn, fill_end}
+use Rattle.literals.proofs.Literals.{fill_start, fill-refused, fill-turn, fill_end}
 use borrow.Author.Rules.{rules}
 use Rattle.literals.proofs.slots.fill_slots.Goals as goal
 

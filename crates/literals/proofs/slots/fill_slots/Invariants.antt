@@ -5,8 +5,7 @@ use lib.ListN.{length, drop}
 use Rattle.definitions.specs.Questions.{literals, pattern_of}
 use Rattle.encoding.specs.Signs.{number_of}
 use Rattle.literals.specs.SlotReads.{argument}
-use Rattle.literals.proofs.Literals.{SlotsSoFar, literals_from, fill_start, fill-refused, fill-turn, fill_end}
-use borrow.Author.Rules.{rules}
+use Rattle.literals.proofs.Literals.{SlotsSoFar, literals_from}
 use Rattle.literals.proofs.slots.fill_slots.Given as goal
 
 abbrev pub invariant-loop-i : goal.invariant-loop-i

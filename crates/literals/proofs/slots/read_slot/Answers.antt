@@ -2,7 +2,6 @@
 use Prim.Native.Nat.{◌-◌, ◌/◌}
 use native.Mathlib.Omega.{arith}
 use Rattle.literals.proofs.Literals.{slot-short, slot-no-symbol, slot-undeclared, slot-refused, slot-filled}
-use borrow.Author.Rules.{rules}
 use Rattle.literals.proofs.slots.read_slot.Goals as goal
 
 pub returns-then-line-at : goal.returns-then-line-at

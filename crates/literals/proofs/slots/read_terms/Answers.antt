@@ -1,14 +1,5 @@
 -- `slots::read_terms` meets its contract: the terms found so far stand in the slot, over whatever stood there. Assumes nothing.
-use Prim.Native.Nat.{ℕ, ◌-◌, ◌≤◌}
-use mathlib.Core.Path.{◌≡◌}
-use mathlib.Core.List.{List, [], map}
-use lib.ListN.{drop}
-use lib.Seq.{sets}
-use Rattle.definitions.specs.Questions.{arguments}
-use Rattle.encoding.specs.Signs.{number_of}
-use Rattle.literals.specs.SlotReads.{argument}
-use Rattle.encoding.specs.Slots.{term_words}
-use Rattle.literals.proofs.Terms.{TermsSoFar, terms_from, three-zeros, terms-start, terms-short, terms-refused, terms-turn, terms-end}
+use Rattle.literals.proofs.Terms.{three-zeros, terms-start, terms-short, terms-refused, terms-turn, terms-end}
 use borrow.Author.Rules.{rules}
 use Rattle.literals.proofs.slots.read_terms.Goals as goal
 
@@ -27,9 +18,9 @@ returns-then-t-eq0 c =
 
 pub loop-j-preserved : goal.loop-j-preserved
 loop-j-preserved c = (
-      search rules,
-      λ before e. terms-turn _ _ _ _ _ _ before _ _ (c.loop-j.invariant.1 before e) _ c.loop-j-test.true c.if-line-here.false c.term_word-t.ensures c.if-t-eq0.false c.requires.1,
-    )
+  search rules,
+  λ before e. terms-turn _ _ _ _ _ _ before _ _ (c.loop-j.invariant.1 before e) _ c.loop-j-test.true c.if-line-here.false c.term_word-t.ensures c.if-t-eq0.false c.requires.1,
+)
 
 pub returns : goal.returns
 returns c =

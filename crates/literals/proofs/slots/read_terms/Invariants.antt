@@ -8,8 +8,7 @@ use Rattle.definitions.specs.Questions.{arguments}
 use Rattle.encoding.specs.Signs.{number_of}
 use Rattle.literals.specs.SlotReads.{argument}
 use Rattle.encoding.specs.Slots.{term_words}
-use Rattle.literals.proofs.Terms.{TermsSoFar, terms_from, three-zeros, terms-start, terms-short, terms-refused, terms-turn, terms-end}
-use borrow.Author.Rules.{rules}
+use Rattle.literals.proofs.Terms.{TermsSoFar, terms_from}
 use Rattle.literals.proofs.slots.read_terms.Given as goal
 
 abbrev pub invariant-loop-j : goal.invariant-loop-j

@@ -1,7 +1,6 @@
 -- `solver::lent::first_short_export` meets its contract. Assumes nothing.
 use mathlib.Core.Path.{refl}
 use native.Mathlib.Omega.{arith}
-use borrow.Author.Rules.{rules}
 use Rattle.theory.specs.ExportLaws.{short-export, enough-rooms}
 use Rattle.solver.specs.LentLaws.{lent-room}
 use Rattle.solver.specs.LentLaws.{asked-first}

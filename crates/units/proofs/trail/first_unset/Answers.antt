@@ -1,5 +1,4 @@
 -- `trail::first_unset` meets its contract: the low zeros of the masked word. Assumes nothing.
-use borrow.Author.Rules.{rules}
 use Rattle.units.specs.FirstUnset.{goal-found, no-goal-found}
 use Rattle.units.proofs.trail.first_unset.Goals as goal
 

@@ -1,8 +1,6 @@
 -- `trail::latest_decision` meets its contract. The loop's invariant: the latest decision below `i` is the latest of all. Assumes nothing.
-use Prim.Native.Nat.{◌≤◌}
-use mathlib.Core.Path.{◌≡◌, refl}
+use mathlib.Core.Path.{refl}
 use borrow.Author.Rules.{rules}
-use Rattle.units.specs.TrailWords.{latest_decision}
 use Rattle.units.proofs.TrailTurns.{decision-hit, decision-turn, decision-end}
 use Rattle.units.proofs.trail.latest_decision.Goals as goal
 

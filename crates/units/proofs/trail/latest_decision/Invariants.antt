@@ -1,9 +1,7 @@
 -- `trail::latest_decision` meets its contract. The loop's invariant: the latest decision below `i` is the latest of all. Assumes nothing.
 use Prim.Native.Nat.{◌≤◌}
-use mathlib.Core.Path.{◌≡◌, refl}
-use borrow.Author.Rules.{rules}
+use mathlib.Core.Path.{◌≡◌}
 use Rattle.units.specs.TrailWords.{latest_decision}
-use Rattle.units.proofs.TrailTurns.{decision-hit, decision-turn, decision-end}
 use Rattle.units.proofs.trail.latest_decision.Given as goal
 
 abbrev pub invariant-loop-i : goal.invariant-loop-i

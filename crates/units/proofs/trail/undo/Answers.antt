@@ -1,9 +1,6 @@
 -- `trail::undo` meets its contract. The loop's invariant: to clear the words from `i` on comes to what clearing all comes to. Assumes nothing.
-use Prim.Native.Nat.{◌≤◌, ◌-◌}
-use mathlib.Core.Path.{◌≡◌, refl}
+use mathlib.Core.Path.{refl}
 use borrow.Author.Rules.{rules}
-use lib.ListN.{take, drop}
-use Rattle.units.specs.TrailWords.{cleared}
 use Rattle.units.proofs.TrailTurns.{undo-turn, undo-end}
 use Rattle.units.proofs.trail.undo.Goals as goal
 

@@ -1,10 +1,8 @@
 -- `trail::undo` meets its contract. The loop's invariant: to clear the words from `i` on comes to what clearing all comes to. Assumes nothing.
 use Prim.Native.Nat.{◌≤◌, ◌-◌}
-use mathlib.Core.Path.{◌≡◌, refl}
-use borrow.Author.Rules.{rules}
+use mathlib.Core.Path.{◌≡◌}
 use lib.ListN.{take, drop}
 use Rattle.units.specs.TrailWords.{cleared}
-use Rattle.units.proofs.TrailTurns.{undo-turn, undo-end}
 use Rattle.units.proofs.trail.undo.Given as goal
 
 abbrev pub invariant-loop-i : goal.invariant-loop-i
