@@ -3,33 +3,18 @@
 use Rattle.std.specs.Prelude.{ℕ, ◌≡◌, refl, true, leb, length}
 use Prim.Native.String.{String}
 use mathlib.Core.List.Memᴰ
-use mathlib.Core.List.{List, [], ◌∷◌, ◌++◌, map, cons≢nil}
+use mathlib.Core.List.{[], ◌∷◌, ◌++◌, map, cons≢nil}
 use Rattle.std.proofs.Common.{leb-true}
 use Rattle.definitions.specs.Lists.{lists_all}
 use Rattle.definitions.specs.Bounds.{sheet_bytes}
 use Rattle.definitions.specs.Words.{variable, Pattern, Rule, words_all}
 use Rattle.definitions.specs.Instances.{instances_all}
-use Rattle.definitions.specs.Sheet.{Line, lines, sheet_all}
-use Rattle.definitions.specs.Questions.{no, Draft, read_line, questions_all}
-use Rattle.definitions.specs.Text.{bytes, text, text_all}
+use Rattle.definitions.specs.Sheet.{lines, sheet_all}
+use Rattle.definitions.specs.Questions.{no, read_line, questions_all}
+use Rattle.definitions.specs.Text.{text_all}
 use Rattle.definitions.specs.Sheets.{passes, is_blank, HeadAmong, Apart, sheets_all}
+use Rattle.definitions.specs.RefusedLineTrials.{line_of, opening, opened, sheet_with, apart_line, kept_apart_line, free_line, blank_line}
 use Rattle.definitions.specs.RefusedLines.{RefusedAt, kind3, kind8, HeadApart, FreeVariable, refused_lines_all}
-
--- a line that LF ended
-unfoldable pub line_of : String → Line
-line_of s = record { bytes = bytes s; ended = true }
-
--- two constants, symbol 1 with one argument, symbol 2 without any
-unfoldable pub opening : List String
-opening = "   1   2" ∷ "   2   1" ∷ "   2   0" ∷ []
-
--- what was read then: the kind of the line before, and the problem
-unfoldable pub opened : Draft
-opened = record { before = 2; problem = record { constants = 2; arities = 1 ∷ 0 ∷ []; rule_lines = []; rules = []; clauses = [] } }
-
--- a sheet with a line behind the opening, and a clause of no literals behind that
-unfoldable pub sheet_with : String → List ℕ
-sheet_with line = text (opening ++ (line ∷ "   4   0" ∷ []))
 
 -- where it is cut into these lines, it is refused at line 4 with the question that the line fails
 unfoldable pub refused-at-4 : (line : String) (question : ℕ) → leb (length (sheet_with line)) sheet_bytes ≡ true
@@ -58,18 +43,12 @@ symbol_two = record { positive = true; symbol = 2; terms = [] }
 
 -- ── 14 ──
 
--- p(X) and p(Y) give false: on a line of kind 3,
-unfoldable pub apart_line : String
-apart_line = "   3   2   0   1   1   1   2"
-
+-- p(X) and p(Y) give false, on a line of kind 3,
 unfoldable pub apart-refused : RefusedAt (sheet_with apart_line) 14 4
 unfolding apart_line sheet_with line_of opening opened text_all lists_all words_all instances_all sheet_all questions_all
 apart-refused = refused-at-4 apart_line 14 refl refl refl
 
--- and with p(X) kept and p(Y) rewritten on a line of kind 8, blanks among its columns
-unfoldable pub kept_apart_line : String
-kept_apart_line = "   8   1   1   0       1   1       1   2"
-
+-- and on a line of kind 8
 unfoldable pub kept-apart-refused : RefusedAt (sheet_with kept_apart_line) 14 4
 unfolding kept_apart_line sheet_with line_of opening opened text_all lists_all words_all instances_all sheet_all questions_all
 kept-apart-refused = refused-at-4 kept_apart_line 14 refl refl refl
@@ -99,9 +78,6 @@ kept-apart-head = record { rule = apart_rule; typed = kind8 _ _ refl refl refl; 
 -- ── 12 ──
 
 -- q gives p(X)
-unfoldable pub free_line : String
-free_line = "   3   1   1   2   1   1"
-
 unfoldable pub free-refused : RefusedAt (sheet_with free_line) 12 4
 unfolding free_line sheet_with line_of opening opened text_all lists_all words_all instances_all sheet_all questions_all
 free-refused = refused-at-4 free_line 12 refl refl refl
@@ -120,9 +96,6 @@ free-variable =
     }
 
 -- ── a line of blanks ──
-
-unfoldable pub blank_line : String
-blank_line = "            "
 
 unfoldable pub blank-refused : RefusedAt (sheet_with blank_line) 7 4
 unfolding blank_line sheet_with line_of opening opened text_all lists_all words_all instances_all sheet_all questions_all

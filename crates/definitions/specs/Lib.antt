@@ -27,3 +27,4 @@ pub mod KeepsTrials
 pub mod DimacsTrials
 pub mod CarriedTrials
 pub mod CommandTrials
+pub mod RefusedLineTrials

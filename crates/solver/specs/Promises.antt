@@ -37,7 +37,8 @@ use Rattle.definitions.proofs.Supposed.{its-accepted, all_but_p, its-satisfied, 
 use Rattle.definitions.proofs.Supposed
 use Rattle.definitions.specs.TwoWayTrials.{free_sheet, free_problem, free-read, body_alone, clauses-satisfied, rules-satisfied, equivalence-broken}
 use Rattle.definitions.specs.CarriedTrials.{both_sheet, both_problem, both_read, both_state, both_ends, both_counts, both-begins, two-logged, all_but, each_needed, first_row, first-follows, first-listed, two-in-body, first-satisfied, filling-broken}
-use Rattle.definitions.proofs.RefusedLineTrials.{sheet_with, apart_line, apart-refused, kept_apart_line, kept-apart-refused, free_line, free-refused, blank_line, blank-refused}
+use Rattle.definitions.specs.RefusedLineTrials.{sheet_with, apart_line, kept_apart_line, free_line, blank_line}
+use Rattle.definitions.proofs.RefusedLineTrials.{apart-refused, kept-apart-refused, free-refused, blank-refused}
 use Rattle.definitions.proofs.ModelTrials.{plates, plates-two-way, named_atom, unnamed_atom, open_atom, no_reverse, open-unsatisfied, reverse-unsatisfied}
 use Rattle.theory.proofs.Theorems.{unsat, unknown, spent, full, decisions-at-most-the-budget, conflicts-at-most-one-more, logged-once}
 use Rattle.theory.specs.InstanceLaws.{substitution-complete, every-filling, only-fillings}
