@@ -20,7 +20,7 @@ use machine::Ended;
 use pipe::Reached;
 
 // The answer, and how many bytes at the fronts of the rooms hold the listing and the text.
-#[derive(Drop)]
+#[derive(Clone, Copy, Drop)]
 pub struct Solved {
     pub answer: Answer,
     pub length: usize,

@@ -8,14 +8,14 @@ use crate::parts::{Behind, DecimalAt};
 use crate::{STARTS, WORDS, parts};
 
 // The sign of a number, and the place behind it.
-#[derive(Drop)]
+#[derive(Clone, Copy, Drop)]
 pub struct Sign {
     pub negative: bool,
     pub next: usize,
 }
 
 // A literal's number, and the place behind its blank.
-#[derive(Drop)]
+#[derive(Clone, Copy, Drop)]
 pub enum LiteralAt {
     Literal {
         negative: bool,
@@ -26,7 +26,7 @@ pub enum LiteralAt {
 }
 
 // Where the words of a clause line end, and the place behind it.
-#[derive(Drop)]
+#[derive(Clone, Copy, Drop)]
 pub enum LineAt {
     Line { end: usize, next: usize },
     NoLine,

@@ -16,7 +16,7 @@ pub const STARTS: usize = 577;
 pub const WORDS: usize = 4608;
 
 // What the reader makes of a text: the number of the question that is answered no, or how many atoms and clauses there are.
-#[derive(Drop)]
+#[derive(Clone, Copy, Drop)]
 pub enum CnfAnswer {
     Refused(u8),
     Read { atoms: u16, clauses: u16 },
@@ -24,7 +24,7 @@ pub enum CnfAnswer {
 
 // The answer, and beside it the clauses (an enum can't hold arrays): where each starts among the literals, and the literals, each as
 // twice its atom's number and 1 more where it is negated. What is not in use is 0, and so is all of it for a refusal.
-#[derive(Drop)]
+#[derive(Clone, Copy, Drop)]
 pub struct CnfRead {
     pub answer: CnfAnswer,
     pub starts: [u16; STARTS],

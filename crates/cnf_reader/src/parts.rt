@@ -4,28 +4,28 @@ ghost use Rattle.definitions.specs.Dimacs.{front, expect, expects, more_digits, 
 ghost use Rattle.cnf_reader.specs.Parts.{place_of, decimal_of, decimal_size, number_at, header_of, header_clauses};
 
 // The place behind what was to be skipped.
-#[derive(Drop)]
+#[derive(Clone, Copy, Drop)]
 pub enum Behind {
     At(usize),
     Nowhere,
 }
 
 // The first digits of a decimal, and the place behind them.
-#[derive(Drop)]
+#[derive(Clone, Copy, Drop)]
 pub struct Digits {
     pub size: u16,
     pub next: usize,
 }
 
 // A decimal, and the place behind it.
-#[derive(Drop)]
+#[derive(Clone, Copy, Drop)]
 pub enum DecimalAt {
     Decimal { size: u16, next: usize },
     NoDecimal,
 }
 
 // How many atoms and clauses the header names, and the place behind it.
-#[derive(Drop)]
+#[derive(Clone, Copy, Drop)]
 pub enum HeaderAt {
     Named {
         atoms: u16,

@@ -10,7 +10,7 @@ ghost use Rattle.column.specs.Scan.{read_on, size_before, ReadAs};
 ghost use Rattle.column.specs.Places.{sign, PutLast};
 
 // What stands in a column: a number, its sign apart from its size; nothing, where it is blank; or a fault.
-#[derive(Drop)]
+#[derive(Clone, Copy, Drop)]
 pub enum ColumnRead {
     Number { negative: bool, size: u16 },
     Nothing,
@@ -18,7 +18,7 @@ pub enum ColumnRead {
 }
 
 // What the bytes of a column are up to some place.
-#[derive(Drop)]
+#[derive(Clone, Copy, Drop)]
 enum Scan {
     Blanks,
     Minus,

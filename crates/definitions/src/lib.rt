@@ -4,7 +4,7 @@
 #![tactic(auto)]
 
 // Which question was answered no, and at which line: 0 where it is asked of the call.
-#[derive(Drop)]
+#[derive(Clone, Copy, Drop)]
 pub struct Refusal {
     pub number: u8,
     pub line: u16,
@@ -20,7 +20,7 @@ pub enum Verdict {
 }
 
 // The answer with its counts. There may be one conflict more than a 32-bit number holds.
-#[derive(Drop)]
+#[derive(Clone, Copy, Drop)]
 pub struct Counts {
     pub verdict: Verdict,
     pub atoms: u16,
@@ -30,21 +30,21 @@ pub struct Counts {
 }
 
 // What a call hands back.
-#[derive(Drop)]
+#[derive(Clone, Copy, Drop)]
 pub enum Answer {
     Refused(Refusal),
     Answered(Counts),
 }
 
 // What an export hands back: the answer, and how many bytes at the front of its room hold the text.
-#[derive(Drop)]
+#[derive(Clone, Copy, Drop)]
 pub struct Exported {
     pub answer: Answer,
     pub length: usize,
 }
 
 // A word of the command that is to be a number of 32 bits.
-#[derive(Drop)]
+#[derive(Clone, Copy, Drop)]
 pub enum Numeral {
     Value(u32),
     NoNumber,
@@ -52,7 +52,7 @@ pub enum Numeral {
 
 // What the command's words order: the listing or the clauses, with the budget of the search; or they are no words of it, and it says which
 // are.
-#[derive(Drop)]
+#[derive(Clone, Copy, Drop)]
 pub enum Order {
     Listing(u32),
     Cnf(u32),

@@ -15,7 +15,7 @@ pub struct Run {
 }
 
 // What a step leads to.
-#[derive(Drop)]
+#[derive(Clone, Copy, Drop)]
 pub enum Next {
     More(Run),
     Done(Verdict, Run),

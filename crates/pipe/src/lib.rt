@@ -12,7 +12,7 @@ use encoding::{ATOMS, CODES, LITERALS, LOGGED, RULE_WORDS, STARTS, SYMBOLS};
 use sheet::Read;
 
 // The first question that is answered no; or the number of goal clauses, and what the search came to.
-#[derive(Drop)]
+#[derive(Clone, Copy, Drop)]
 pub enum Reached {
     Refused(Refusal),
     Ended(usize, machine::Ended),

@@ -13,14 +13,14 @@ use encoding::COLUMNS;
 const LINE_BYTES: usize = 4 * COLUMNS;
 
 // The columns of a line: how many of them are filled, or that one is at fault.
-#[derive(Drop)]
+#[derive(Clone, Copy, Drop)]
 enum RowRead {
     Filled(usize),
     Fault,
 }
 
 // The start of a line: the first of questions 4 to 7 that is answered no, or its kind and how many columns are filled.
-#[derive(Drop)]
+#[derive(Clone, Copy, Drop)]
 pub enum LineStart {
     No(u8),
     Kind { kind: usize, filled: usize },

@@ -18,7 +18,7 @@ use rows::LineStart;
 pub const SHEET_BYTES: usize = 16384;
 
 // The first question that is answered no, or the sizes of what was read.
-#[derive(Drop)]
+#[derive(Clone, Copy, Drop)]
 pub enum Read {
     Refused(Refusal),
     Accepted(Sizes),

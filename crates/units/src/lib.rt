@@ -4,7 +4,7 @@
 pub mod trail; // trail.rt: setting and undoing
 
 // What a clause asks for, and step A by the first clause that asks for something: a conflict, a literal to be set, or nothing.
-#[derive(Drop)]
+#[derive(Clone, Copy, Drop)]
 pub enum UnitAct {
     Conflict,
     Force(u16),
