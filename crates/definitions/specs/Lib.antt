@@ -5,6 +5,7 @@ pub mod Instances
 pub mod Meaning
 pub mod Sheet
 pub mod Questions
+pub mod Numbered
 pub mod Search
 pub mod LiteralTest
 pub mod ClauseNumbers

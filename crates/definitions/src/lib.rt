@@ -3,6 +3,40 @@
 // document 01's number and values for each case; `Command` says what the command does with its words.
 #![tactic(auto)]
 
+ghost use Rattle.std.specs.Prelude.{◌≡◌};
+ghost use Rattle.definitions.specs.Numbered.{question_number};
+
+// The questions by their numbers: 1 and 15 are asked of what a call is lent, 2 and 3 of a sheet, 4 to 14 of each of its lines, 21 and 22 of
+// a text in DIMACS CNF.
+#[derive(Clone, Copy, PartialEq, Eq, Drop)]
+pub enum Question {
+    Room = 1,
+    SheetLength = 2,
+    SheetFilled = 3,
+    LineEnd = 4,
+    LineLength = 5,
+    Columns = 6,
+    Kind = 7,
+    Counts = 8,
+    Limits = 9,
+    Literals = 10,
+    NothingLeft = 11,
+    Restricted = 12,
+    Goals = 13,
+    Connected = 14,
+    ExportRoom = 15,
+    Header = 21,
+    ClauseLines = 22,
+}
+
+impl From<Question> for u8 {
+    ghost from_gives = { λ question number. number ≡ question_number question };
+
+    fn from(question: Question) -> u8 {
+        question as u8
+    }
+}
+
 // Which question was answered no, and at which line: 0 where it is asked of the call.
 #[derive(Clone, Copy, Drop)]
 pub struct Refusal {
