@@ -1,12 +1,14 @@
 -- The loops over the trail, turn by turn: what is left to do comes to what all of it came to. Assumes nothing.
-use Rattle.std.specs.Prelude.{ℕ, suc, ◌+◌, ◌-◌, ◌≤◌, ◌<◌, ◌≡◌, List, Option, MatchOption, length, get_or, drop}
-use Rattle.std.proofs.Common.{sym, ◌∙◌, ap, arith, add-one, drop-cons, eq-eqb, ne_eqb, ltb, ltb-true, ltb-false, nat_lt}
-use Rattle.std.proofs.lemmas.List.{drop_all}
+use Rattle.std.specs.Prelude.{ℕ, suc, ◌+◌, ◌-◌, ◌≤◌, ◌<◌, ◌≡◌, List, Option, MatchOption, length, get_or}
+use Rattle.std.proofs.Common.{sym, ◌∙◌, ap, arith, eq-eqb, ne_eqb, ltb, ltb-true, ltb-false, nat_lt}
 use Rattle.std.specs.Bool.{then_some}
 use Rattle.definitions.specs.Search.{decided}
 use Rattle.theory.specs.Tests.{by-test}
 use Rattle.encoding.specs.Values.{Values, unassigned}
+use Rattle.encoding.specs.ArrayLaws.{part-cons, part-nil}
 use Rattle.units.specs.TrailWords.{mark_of, latest_decision, cleared}
+use Rattle.units.specs.TrailArrays.{trail_arrays, undo_from}
+use Rattle.units.specs.declared.trail.Trail.{Trail}
 
 module _ (marks : List ℕ) {x : ℕ} where
   pub decision-hit : (i : ℕ) → 0 < i → get_or marks (i - 1) 0 ≡ mark_of decided → latest_decision marks i ≡ x → i ≡ x
@@ -25,14 +27,14 @@ module _ (marks : List ℕ) {x : ℕ} where
   unfolding latest_decision
   decision-end i h e = let f : i ≡ 0 = omega arith in sym (rw (f, latest_decision) at e)
 
-module _ (words : List ℕ) (values : Values) (i : ℕ) {x : Values} (left : cleared values (drop i words) ≡ x) where
-  pub undo-turn : {next : Values} → i < length words → next ≡ unassigned values (get_or words i 0) → cleared next (drop (i + 1) words) ≡ x
-  unfolding cleared
-  undo-turn h q = rw (q, add-one i) (rw (drop-cons words i 0 h, cleared) at left)
+module _ (at n : ℕ) (t : Trail) {u : Trail} (left : undo_from at n t ≡ u) where
+  pub undo-turn : {next : Values} → at < n → n ≤ length t.words → next ≡ unassigned t.values (get_or t.words at 0) → undo_from (at + 1) n (trail_arrays next t.words t.marks) ≡ u
+  unfolding undo_from cleared
+  undo-turn h k q = rw q (rw (part-cons t.words n at h k, cleared) at left)
 
-  pub undo-end : length words ≤ i → values ≡ x
-  unfolding cleared
-  undo-end h = rw (drop_all i words h, cleared) at left
+  pub undo-end : n ≤ at → t ≡ u
+  unfolding undo_from cleared
+  undo-end h = rw (part-nil t.words n at h, cleared) at left
 
 -- a place that is below 64 where there is one
 pub found-or-not : {f goals : ℕ} (zeros : ℕ) {o : Option ℕ} → (zeros < 64 → (zeros ≡ f) × (zeros < goals)) → (64 ≤ zeros → goals ≡ f)

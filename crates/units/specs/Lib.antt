@@ -1,7 +1,7 @@
 pub mod Units
 pub mod ClausesStand
 pub mod LiteralWords
-pub mod Marks
+pub mod TrailArrays
 pub mod FalseWords
 pub mod UnitLaws
 pub mod TrailWords
