@@ -1,6 +1,6 @@
 -- Step A in the code's terms: the loop over the clauses that ask, and what a literal weighs. Assumes nothing.
 use Prim.Native.Nat.{ℕ, suc, ◌+◌, ◌-◌, ◌≤◌, ◌<◌}
-use mathlib.Core.Path.{◌≡◌, sym, ◌∙◌}
+use mathlib.Core.Path.{◌≡◌, refl, sym, ◌∙◌}
 use mathlib.Core.Bool.{false}
 use mathlib.Core.List.{List}
 use native.Mathlib.Omega.{arith}
@@ -65,13 +65,16 @@ module _ (values : Values) (starts literals heads : List ℕ) (given goals : ℕ
           let g : c + 1 ≡ suc c = omega arith in
           cc
 
-      pub act-hit : a ≡ Conflict → Conflict ≡ x
+      act-hit : a ≡ Conflict → Conflict ≡ x
       unfolding act_from
       act-hit e = let f : n - c ≡ suc (n - (c + 1)) = omega arith in cc
 
-      pub act-hit-force : (w : ℕ) → a ≡ Force w → Force w ≡ x
+      act-hit-force : (w : ℕ) → a ≡ Force w → Force w ≡ x
       unfolding act_from
       act-hit-force w e = let f : n - c ≡ suc (n - (c + 1)) = omega arith in cc
+
+      pub act-found : (a ≡ Nothing → ⊥) → a ≡ x
+      act-found some = elim a as (λ b. a ≡ b → b ≡ x) [ Conflict ↦ λ e. act-hit e | Force w ↦ λ e. act-hit-force w e | Nothing ↦ λ e. absurd (some e) ] refl
 
     pub act-end : n ≤ c → Nothing ≡ x
     unfolding act_from
