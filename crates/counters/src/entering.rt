@@ -12,6 +12,7 @@ use encoding::values::Values;
 use encoding::{ClauseStore, values};
 
 // What a literal weighs: 257 a true one, 1 an unset one, nothing a false one.
+#[tactic(auto, unfolding(crate::specs::Weights::weighs, crate::specs::Weights::weight, encoding::specs::Values::is_false_value, encoding::specs::Values::is_true_value, encoding::specs::Values::same_value))]
 fn weight_of(values: &Values, w: u16) -> u32
     requires { w < 512 }
     ensures { (result ≡ weighs values.now w) × (result ≤ 257) }
