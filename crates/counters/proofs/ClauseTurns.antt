@@ -1,6 +1,6 @@
 -- What a clause that asks does, in the code's terms: its words, the loop over them, and what its number says. Assumes nothing.
-use Rattle.std.specs.Prelude.{ℕ, suc, ◌+◌, ◌-◌, ◌≤◌, ◌<◌, ◌≡◌, Bool, true, false, List, [], ◌∷◌, length, get_or, take, drop, slice_range}
-use Rattle.std.proofs.Common.{sym, ◌∙◌, ap, arith, drop-cons, length-take, get_or-take, get_or-drop}
+use Rattle.std.specs.Prelude.{ℕ, suc, ◌+◌, ◌-◌, ◌≤◌, ◌<◌, ◌≡◌, Bool, true, false, List, [], ◌∷◌, length, get_or, drop, slice_range}
+use Rattle.std.proofs.Common.{sym, ◌∙◌, arith, drop-cons, length-take, get_or-take, get_or-drop}
 use Rattle.std.proofs.lemmas.List.{drop_all}
 use Rattle.encoding.specs.ArrayLaws.{get_d-rising}
 use Rattle.encoding.specs.CountLaws.{by_order}

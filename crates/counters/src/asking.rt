@@ -26,14 +26,7 @@ fn first_open(values: &Values, clause: &[u16]) -> Option<usize>
 
 // Whether clause c may set a literal that so many false ones stand before: where the negated heads are among these, all heads are true.
 #[tactic(auto, unfolding(crate::specs::ByNumber::may_set_at))]
-fn may_set(
-    store: &ClauseStore,
-    given: usize,
-    goals: usize,
-    c: usize,
-    w: u16,
-    before: usize,
-) -> bool
+fn may_set(store: &ClauseStore, given: usize, goals: usize, c: usize, w: u16, before: usize) -> bool
     requires { (goals ≤ 256) × (c < given + 512) }
     ensures { result ≡ may_set_at store.now.heads given goals c w before }
 {
