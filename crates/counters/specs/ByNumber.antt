@@ -29,7 +29,7 @@ unfoldable pub may_set_at : List ℕ → ℕ → ℕ → ℕ → ℕ → ℕ →
 may_set_at heads goal_clauses goals c w before = ltb w (2 * goals) || (not (ltb c goal_clauses) && leb (get_or heads (c - goal_clauses) 0) before)
 
 module _ (values : Values) where
-  abbrev open_word : ℕ → Bool
+  abbrev pub open_word : ℕ → Bool
   open_word w = not (false_word values w)
 
   -- ── the words that are left tell the number ──

@@ -16,12 +16,7 @@ fn first_open(values: &Values, clause: &[u16]) -> Option<usize>
     ensures { MatchOption result (first_open values.now clause.now ≡ length clause.now)
         (λ at. (first_open values.now clause.now ≡ at) × (at < length clause.now)) }
 {
-    for (at, w) in clause.iter().enumerate() {
-        if !values::is_false(values, *w) {
-            return Some(at);
-        }
-    }
-    None
+    clause.iter().position(|w| !values::is_false(values, *w))
 }
 
 // Whether clause c may set a literal that so many false ones stand before: where the negated heads are among these, all heads are true.
