@@ -1,14 +1,10 @@
 -- What a clause asks for, by its number. At 2 or more it rests. At 0 it is a conflict. At 1 the first word that is not false is the only one and not
 -- true, and its place tells whether the clause may set it. Assumes nothing.
-use Prim.Native.Nat.{ℕ, zero, suc, ◌+◌, ◌-◌, ◌*◌, ◌≤◌, ◌<◌}
-use Rattle.std.specs.Prelude.{◌≡◌, Bool, true, false, not, ◌&&◌, ◌||◌, leb, take, drop}
+use Rattle.std.specs.Prelude.{◌≡◌, Bool, true, false, not, ◌&&◌, ◌||◌, leb, take, drop, ℕ, zero, suc, ◌+◌, ◌-◌, ◌*◌, ◌≤◌, ◌<◌, List, [], ◌∷◌}
 use Rattle.std.proofs.Math.Path.{refl, sym, ap}
-use Rattle.std.proofs.Common.{◌∙◌, take-take}
-use mathlib.Core.List.{List, [], ◌∷◌}
-use native.Mathlib.Omega.{arith}
+use Rattle.std.proofs.Common.{◌∙◌, take-take, arith, eqb-true, ltb-false, le-leb}
 use Rattle.std.proofs.Math.Dec.{eqb, ltb, leb-suc-zero, leb-suc-suc}
 use Rattle.std.proofs.Math.ListN.{length, get_or}
-use borrow.Author.Tests.{eqb-true, ltb-false, le-leb}
 use Rattle.definitions.specs.Lists.{all, filter, distinct}
 use Rattle.theory.specs.Tests.{by-test, true-and-false}
 use Rattle.theory.specs.ListLaws.{filter-in, filter-all, filter-both}
