@@ -1,6 +1,7 @@
 -- `asking::act_at` meets its contract, by the place of the first word that is not false. Assumes nothing.
 use Rattle.std.proofs.Common.{arith}
-use Rattle.counters.proofs.ClauseTurns.{clause-words, act-conflict, act-force, act-not}
+use Rattle.counters.proofs.ClauseTurns.{act-conflict, act-force, act-not}
+use Rattle.counters.specs.ClauseWords.{clause-words}
 use Rattle.counters.proofs.asking.act_at.Goals as goal
 
 pub first_open-requires : goal.first_open-requires
