@@ -1,6 +1,7 @@
 // Step A over the clauses that ask.
 ghost use Rattle.std.specs.Prelude.{◌≡◌, List, ℕ, ◌+◌, ◌≤◌, ◌<◌, MatchOption, get_or, length};
 ghost use Rattle.units.specs.Units.{clause_at, act_at, act_from, ClausesFit};
+ghost use Rattle.units.specs.declared.UnitAct.TheVariants.{Force, Nothing};
 ghost use Rattle.counters.specs.Counters.{read_whole, counters, counters_of};
 ghost use Rattle.counters.specs.ByNumber.{first_open, may_set_at};
 
@@ -45,27 +46,22 @@ impl Clauses<'_> {
         usize::from(self.store.heads[c - self.given]) <= before
     }
 
-    // What clause c asks for, where at most one of its literals is not false: with none it is a conflict, and one is unset.
-    fn act(&self, c: usize) -> UnitAct
+    // The literal that clause c sets, where one alone of its literals is not false: it is unset.
+    fn forced(&self, c: usize) -> Option<u16>
         requires { ClausesFit self.now.store.now.starts self.now.store.now.literals self.now.store.now.heads self.now.given (c + 1)
-            × (read_whole self.now.values.now (clause_at self.now.store.now.starts self.now.store.now.literals c) ≤ 1) }
-        ensures { result ≡ act_at self.now.values.now self.now.store.now.starts self.now.store.now.literals self.now.store.now.heads self.now.given self.now.goals c }
+            × (read_whole self.now.values.now (clause_at self.now.store.now.starts self.now.store.now.literals c) ≡ 1) }
+        ensures { let act = act_at self.now.values.now self.now.store.now.starts self.now.store.now.literals self.now.store.now.heads self.now.given self.now.goals c in
+            MatchOption result (act ≡ Nothing) (λ w. act ≡ Force w) }
     {
         let clause = self.store.clause(c);
-        let Some(before) = first_open(self.values, clause) else {
-            return UnitAct::Conflict;
-        };
+        let before = first_open(self.values, clause)?;
         let w = clause[before];
-        if self.may_set(c, w, before) {
-            UnitAct::Force(w)
-        } else {
-            UnitAct::Nothing
-        }
+        self.may_set(c, w, before).then_some(w)
     }
 }
 
 impl Counters {
-    // Step A: the first clause that is a conflict or sets its one unset literal.
+    // Step A: the first clause that is a conflict or sets its one unset literal. Its number tells which: at 0 all its literals are false.
     pub fn next_act(
         &self,
         values: &Values,
@@ -87,10 +83,13 @@ impl Counters {
         };
         let mut from = 0;
         while let Some(c) = sets::first_between(&self.asking, from, clauses) {
-            match read.act(c) {
-                UnitAct::Nothing => from = c + 1,
-                act => return act,
+            if self.counts[c] == 0 {
+                return UnitAct::Conflict;
             }
+            if let Some(w) = read.forced(c) {
+                return UnitAct::Force(w);
+            }
+            from = c + 1;
         }
         UnitAct::Nothing
     }
