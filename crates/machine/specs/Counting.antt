@@ -18,7 +18,9 @@ use Rattle.theory.specs.ListLaws.{at_split, in-along}
 use Rattle.encoding.specs.Encoding.{literal_word}
 use Rattle.encoding.specs.HoldLaws.{its-goals}
 use Rattle.encoding.specs.declared.Sizes.{Sizes}
-use Rattle.encoding.specs.Lent.{LentValues, ClauseStore, TrailArrays}
+use Rattle.encoding.specs.Lent.{LentValues}
+use Rattle.encoding.specs.declared.ClauseStore.{ClauseStore}
+use Rattle.units.specs.TrailArrays.{TrailArrays}
 use Rattle.encoding.specs.Values.{Values}
 use Rattle.encoding.specs.ArrayLaws.{get_d-rising}
 use Rattle.units.specs.Units.{clause_at, ClausesFit}
@@ -32,12 +34,14 @@ use Rattle.rules.specs.Rules.{code_under, rule_variables}
 use Rattle.rules.specs.Fillings.{filling_of}
 use Rattle.clause_log.specs.StoreLaws.{clause-kept, take-sets-le}
 use Rattle.clause_log.specs.Logging.{Log, head_words, word_under, taken_slot, enters_slot, stored, put_clause, too_many, log_taken, log_under}
-use Rattle.counters.specs.Counters.{Counters, counters_of}
+use Rattle.counters.specs.Counters.{counters_of}
+use Rattle.counters.specs.declared.Counters.{Counters}
 use Rattle.counters.specs.CounterLaws.{counters-same}
 use Rattle.counters.specs.Setting.{StayKept, CountersFit, counters-fit, IsUnset}
 use Rattle.counters.specs.Undoing.{Undoable, undone-open}
 use Rattle.counters.specs.TrailCounts.{literal-unset, entries-undoable}
-use Rattle.machine.specs.Machine.{Machine, log_in, Stands, Running, act_of}
+use Rattle.machine.specs.Machine.{log_in, Stands, Running, act_of}
+use Rattle.machine.specs.declared.Machine.{Machine}
 use Rattle.machine.specs.StandsLaws.{trail-consistent, trail-decided, unit-unset, goal-unset, goal-none, goal-some, back_none}
 use Rattle.machine.specs.StepNeeds.{units-fit, unit-literal, flip-fits}
 use Rattle.machine.specs.MachineSteps.{Stepped, stepped, one_set, one_decided, one_conflict, one_logged, flip_at, conflict_step, unit_step, decide_step, goal_step, instance_step, run_after}

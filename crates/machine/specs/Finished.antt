@@ -6,7 +6,8 @@ use Rattle.definitions.specs.Search.{State, Outcome, more, done, search}
 use Rattle.definitions.specs.declared.Verdict.{Verdict}
 use Rattle.theory.specs.Limits.{Searchable}
 use Rattle.encoding.specs.Values.{Values}
-use Rattle.machine.specs.Machine.{Machine, machine, StandsAtEnd, EndStands}
+use Rattle.machine.specs.Machine.{machine, StandsAtEnd, EndStands}
+use Rattle.machine.specs.declared.Machine.{Machine}
 use Rattle.machine.specs.declared.Ended.{Ended}
 
 -- the arrays stand for the state in which the search of a problem ended, and for the arities of its symbols

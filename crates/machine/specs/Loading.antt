@@ -15,7 +15,8 @@ use Rattle.encoding.specs.Slots.{rule_words}
 use Rattle.encoding.specs.Values.{no_values}
 use Rattle.encoding.specs.Encoding.{atom_code, clause_words, starts_from, Arrays, arrays, hold, sizes_of, empty_index}
 use Rattle.encoding.specs.declared.Sizes.{Sizes}
-use Rattle.machine.specs.Machine.{Machine, machine, Stands, RulesStand, Running, EndStands, EndsRun, Lengths, Loaded}
+use Rattle.machine.specs.Machine.{machine, Stands, RulesStand, Running, EndStands, EndsRun, Lengths, Loaded}
+use Rattle.machine.specs.declared.Machine.{Machine}
 use Rattle.machine.specs.MachineStart.{rules-stand, machine-start}
 use Rattle.machine.specs.SearchStands.{search-stands}
 use Rattle.agenda.specs.Agenda.{Users}

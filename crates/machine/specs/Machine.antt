@@ -13,7 +13,8 @@ use Rattle.theory.specs.Invariants.{Sound}
 use Rattle.theory.specs.Ends.{measure}
 use Rattle.encoding.specs.Encoding.{Arrays, empty_index, sizes_of, hold}
 use Rattle.encoding.specs.declared.Sizes.{Sizes}
-use Rattle.encoding.specs.Lent.{Array, Lent, ValueArray, LentValues, ClauseStore, clause_store, AtomTable, atom_table, TrailArrays, trail_arrays}
+use Rattle.encoding.specs.Lent.{Array, Lent, ValueArray, LentValues, clause_store, atom_table}
+use Rattle.units.specs.TrailArrays.{trail_arrays}
 use Rattle.encoding.specs.Slots.{rule_words}
 use Rattle.encoding.specs.Values.{Values, no_values}
 use Rattle.units.specs.TrailWords.{TrailStands}
@@ -24,16 +25,11 @@ use Rattle.walk.specs.Walk.{walk_from}
 use Rattle.walk.specs.declared.Found.{Found}
 use Rattle.clause_log.specs.Logging.{Log}
 use Rattle.clause_log.specs.LogHolds.{LogHolds}
+use Rattle.machine.specs.declared.Machine.{Machine}
 use Rattle.machine.specs.declared.Run.{Run}
 use Rattle.machine.specs.declared.Ended.{Ended}
 use Rattle.machine.specs.declared.Next.{Next}
 use Rattle.machine.specs.declared.Next.TheVariants.{More, Done}
-
--- the arrays that the search changes
-pub record Machine : Type 0 where
-  pub store : ClauseStore
-  pub table : AtomTable
-  pub trail : TrailArrays
 
 abbrev pub machine : List ℕ → List ℕ → List ℕ → List ℕ → List ℕ → List ℕ → Values → List ℕ → List ℕ → Machine
 machine starts literals heads numbers table index values trail marks =

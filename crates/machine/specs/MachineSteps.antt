@@ -1,15 +1,16 @@
 -- The steps of the machine, in the code's order of tests, and what a run of them comes to. Assumes nothing.
-use Rattle.std.specs.Prelude.{ℕ, zero, suc, ◌+◌, ◌-◌, ◌*◌, ◌≡◌, true, false, List, eqb, leb, get_or, set, take, drop}
+use Rattle.std.specs.Prelude.{ℕ, zero, suc, ◌+◌, ◌*◌, ◌≡◌, true, false, List, eqb, leb, get_or}
 use Rattle.std.proofs.Math.Option.{none, some}
 use denote.Triple.Both.{Both}
 use Rattle.definitions.specs.declared.Verdict.TheVariants.{Unsat, Unknown, Spent, Full}
 use Rattle.definitions.specs.Search.{decided, flipped, forced}
-use Rattle.encoding.specs.Values.{Values, assigned}
-use Rattle.units.specs.TrailWords.{mark_of, latest_decision, cleared, first_unset}
+use Rattle.encoding.specs.Values.{Values}
+use Rattle.units.specs.TrailWords.{mark_of, latest_decision, first_unset}
 use Rattle.clause_log.specs.Logging.{Log, log_under}
 use Rattle.encoding.specs.declared.Sizes.{Sizes}
-use Rattle.encoding.specs.Lent.{TrailArrays, trail_arrays}
-use Rattle.machine.specs.Machine.{Machine, log_in, act_of, walk_of}
+use Rattle.units.specs.TrailArrays.{TrailArrays, set_at, undo_from}
+use Rattle.machine.specs.Machine.{log_in, act_of, walk_of}
+use Rattle.machine.specs.declared.Machine.{Machine}
 use Rattle.rules.specs.Rules.{rule_variables}
 use Rattle.rules.specs.Fillings.{filling_of}
 use Rattle.machine.specs.declared.Run.{Run}
@@ -25,14 +26,6 @@ pub record Stepped (A : Type 0) : Type 0 where
 
 abbrev pub stepped : {A : Type 0} → Next → A → Stepped A
 stepped r a = record { next = r; arrays = a }
-
--- a literal is set at a place of the trail
-unfoldable pub set_at : ℕ → ℕ → ℕ → TrailArrays → TrailArrays
-set_at at w why t = trail_arrays (assigned t.values w) (set t.words at w) (set t.marks at why)
-
--- what was set from a place on is unset
-unfoldable pub undo_from : ℕ → ℕ → TrailArrays → TrailArrays
-undo_from at n t = trail_arrays (cleared t.values (take (n - at) (drop at t.words))) t.words t.marks
 
 -- the counts that a step changes
 unfoldable pub one_set : Run → Run

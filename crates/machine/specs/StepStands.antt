@@ -33,8 +33,10 @@ use Rattle.walk.specs.WalkStands.{WalkAs}
 use Rattle.clause_log.specs.Logging.{Log}
 use Rattle.clause_log.specs.LogHolds.{LogHolds}
 use Rattle.clause_log.specs.LogStands.{logged-full, logged-stands}
-use Rattle.machine.specs.Machine.{Machine, log_in, Stands, StandsAtEnd, RulesStand, NextStands}
-use Rattle.machine.specs.MachineSteps.{Stepped, stepped, set_at, undo_from, with_trail, with_log, on_trail, on_log, one_set, one_decided, one_conflict, one_logged, flip_at, conflict_step, unit_step, instance_step, decide_step, goal_step, machine_step}
+use Rattle.machine.specs.Machine.{log_in, Stands, StandsAtEnd, RulesStand, NextStands}
+use Rattle.machine.specs.declared.Machine.{Machine}
+use Rattle.machine.specs.MachineSteps.{Stepped, stepped, with_trail, with_log, on_trail, on_log, one_set, one_decided, one_conflict, one_logged, flip_at, conflict_step, unit_step, instance_step, decide_step, goal_step, machine_step}
+use Rattle.units.specs.TrailArrays.{set_at, undo_from}
 use Rattle.machine.specs.StandsLaws.{true-words, true-known, room_for, act-as, unit-unset, back_none, back_some, walk-as, goal-unset, goal-none, goal-some}
 use Rattle.units.specs.BacktrackLaws.{zero-backtrack-none}
 use Rattle.rules.specs.RuleStands.{rule-variables}

@@ -2,7 +2,27 @@
 // definitions' search is shown in specs.
 #![tactic(auto)]
 
+use agenda::Agenda;
 use definitions::Verdict;
+use encoding::{AtomTable, ClauseStore};
+use masks::Kept;
+use units::trail::Trail;
+
+// The arrays that the search changes. With the table's index they take over 1 MB: they are built where they stay.
+#[derive(Clone, Copy, Drop)]
+pub struct Machine {
+    pub store: ClauseStore,
+    pub table: AtomTable,
+    pub trail: Trail,
+}
+
+// What step B keeps beside it: the masks, how many entries of the trail they hold, and the rules that are awake.
+#[derive(Clone, Copy, Drop)]
+pub struct Upkeep {
+    pub held: Kept,
+    pub walked: usize,
+    pub agenda: Agenda,
+}
 
 // How much of the arrays is in use, and both counts. There may be one conflict more than a 32-bit number holds.
 #[derive(Clone, Copy, Drop)]

@@ -4,6 +4,7 @@ pub mod LiteralWords
 pub mod FalseWords
 pub mod UnitLaws
 pub mod TrailWords
+pub mod TrailArrays
 pub mod Stacks
 pub mod TrailLaws
 pub mod BacktrackLaws

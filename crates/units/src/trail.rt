@@ -14,6 +14,14 @@ pub const DECIDED: u8 = 1;
 
 pub const FLIPPED: u8 = 2;
 
+// The state of each position's atom, and of each entry of the trail its literal's word and why it was set.
+#[derive(Clone, Copy, Drop)]
+pub struct Trail {
+    pub values: Values,
+    pub words: [u16; ATOMS],
+    pub marks: [u8; ATOMS],
+}
+
 // Sets a literal, with why it is set, behind the first n entries.
 pub fn set_literal(
     values: &mut Values,
