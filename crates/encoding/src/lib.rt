@@ -2,6 +2,7 @@
 #![tactic(auto)]
 
 pub mod atoms; // atoms.rt: atoms by their codes
+mod clauses; // clauses.rt: the words of a clause
 pub mod slots; // slots.rt: the code of a literal's atom, and the terms of slots
 pub mod values; // values.rt: the values of literals
 

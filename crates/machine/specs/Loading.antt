@@ -20,9 +20,7 @@ use Rattle.machine.specs.declared.Machine.{Machine}
 use Rattle.machine.specs.MachineStart.{rules-stand, machine-start}
 use Rattle.machine.specs.SearchStands.{search-stands}
 use Rattle.agenda.specs.Agenda.{Users}
-use Rattle.machine.specs.FollowingLaws.{none_awake}
-use Rattle.machine.specs.Upkeep.{upkeep_of}
-use Rattle.machine.specs.Stepping.{Stepping, start-follow}
+use Rattle.machine.specs.Stepping.{Stepping, start_upkeep, start-follow}
 use Rattle.machine.specs.declared.Run.{Run}
 use Rattle.machine.specs.declared.Ended.{Ended}
 
@@ -71,7 +69,7 @@ module _ (p : Problem) (sizes : Sizes) (budget : ℕ) (rules : List ℕ) (m : Ma
 
   -- a step can be made, with masks that hold nothing while all rules sleep
   pub loaded-stepping : budget < 2 ^ 32 → (users : List ℕ) → Users rules sizes.rules users
-      → Stepping budget rules users sizes m (start_run sizes) (upkeep_of (replicate 104544 0) (replicate 3072 0) (replicate 3072 0) (replicate 1 0) none_awake (replicate 128 0))
+      → Stepping budget rules users sizes m (start_run sizes) start_upkeep
   loaded-stepping small users its =
       record {
         running = loaded-running small;

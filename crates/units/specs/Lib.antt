@@ -1,10 +1,10 @@
 pub mod Units
 pub mod ClausesStand
 pub mod LiteralWords
+pub mod TrailArrays
 pub mod FalseWords
 pub mod UnitLaws
 pub mod TrailWords
-pub mod TrailArrays
 pub mod Stacks
 pub mod TrailLaws
 pub mod BacktrackLaws

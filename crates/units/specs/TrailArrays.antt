@@ -4,6 +4,8 @@ use denote.Triple.Both.{Both}
 use Rattle.encoding.specs.Lent.{Lent, LentValues}
 use Rattle.encoding.specs.Values.{Values, assigned}
 use Rattle.units.specs.TrailWords.{cleared}
+use Rattle.units.specs.declared.trail.Mark.{Mark}
+use Rattle.units.specs.declared.trail.Mark.TheVariants.{Forced, Decided, Flipped}
 use Rattle.units.specs.declared.trail.Trail.{Trail}
 
 -- the definitions' trail is a list of entries; this one is arrays
@@ -20,6 +22,12 @@ lent_trail values trail marks =
       entry = trail_arrays values.entry.now trail.entry.now marks.entry.now;
       exit = trail_arrays values.exit.now trail.exit.now marks.exit.now;
     }
+
+-- the number by which the trail notes why a literal is set
+abbrev pub mark_number : Mark → ℕ
+mark_number Forced = 0
+mark_number Decided = 1
+mark_number Flipped = 2
 
 -- a literal is set at a place of the trail
 unfoldable pub set_at : ℕ → ℕ → ℕ → TrailArrays → TrailArrays
