@@ -1,9 +1,6 @@
 -- Step A in the code's terms: the loop over the clauses that ask. Assumes nothing.
-use Prim.Native.Nat.{ℕ, suc, ◌+◌, ◌-◌, ◌≤◌, ◌<◌}
-use mathlib.Core.Path.{◌≡◌, refl}
-use mathlib.Core.List.{List}
-use native.Mathlib.Omega.{arith}
-use lib.ListN.{get_or}
+use Rattle.std.specs.Prelude.{ℕ, suc, ◌+◌, ◌-◌, ◌≤◌, ◌<◌, ◌≡◌, refl, List, get_or}
+use Rattle.std.proofs.Common.{arith}
 use Rattle.encoding.specs.Values.{Values}
 use Rattle.encoding.specs.ArrayLaws.{get_d-rising}
 use Rattle.units.specs.Units.{act_at, act_from, ClausesFit}

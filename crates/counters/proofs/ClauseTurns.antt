@@ -1,66 +1,38 @@
 -- What a clause that asks does, in the code's terms: its words, the loop over them, and what its number says. Assumes nothing.
-use Rattle.std.specs.Prelude.{ℕ, suc, ◌+◌, ◌-◌, ◌≤◌, ◌<◌, ◌≡◌, Bool, true, false, List, [], ◌∷◌, length, get_or, drop, slice_range}
-use Rattle.std.proofs.Common.{sym, ◌∙◌, arith, drop-cons, length-take, get_or-take, get_or-drop}
-use Rattle.std.proofs.lemmas.List.{drop_all}
-use Rattle.encoding.specs.ArrayLaws.{get_d-rising}
+use Rattle.std.specs.Prelude.{ℕ, ◌+◌, ◌≤◌, ◌<◌, ◌≡◌, refl, Bool, true, false, Option, Some, None, MatchOption, List, [], ◌∷◌, length, get_or}
+use Rattle.std.proofs.Common.{sym, ◌∙◌, arith, cond, ltb, ltb-true, ltb-false}
+use Rattle.std.specs.List.{position_or_len}
+use Rattle.theory.specs.Tests.{by-test}
 use Rattle.encoding.specs.CountLaws.{by_order}
-use Rattle.encoding.specs.Lengths.{literal_array}
 use Rattle.encoding.specs.Values.{Values, false_word, true_word}
 use Rattle.units.specs.Units.{clause_at, may_set, not_false_words, act_on_words, act_at, ClausesFit}
 use Rattle.units.specs.declared.UnitAct.TheVariants.{Conflict, Force, Nothing}
 use Rattle.counters.specs.Counters.{read_whole}
-use Rattle.counters.specs.ByNumber.{first_open, may_set_at, zero_left, one_left, some-left, may-by-place}
-
--- ── the words of a clause ──
-
--- where it stands, and that its words are those between
-pub record ClauseWords (starts literals : List ℕ) (c : ℕ) (words : List ℕ) : Type 0 where
-  pub is : words ≡ clause_at starts literals c
-  pub few : length words ≤ literal_array
-  pub small : (i : ℕ) → i < length words → get_or words i 0 < 512
-
-module _ {starts literals heads : List ℕ} {given clauses : ℕ} (fit : ClausesFit starts literals heads given clauses) (c : ℕ) (l : c < clauses) where
-  pub clause-stands : (c + 1 < 578) × (get_or starts c 0 ≤ get_or starts (c + 1) 0) × (get_or starts (c + 1) 0 ≤ literal_array)
-  clause-stands = (omega (arith, fit.limit), fit.rising c l, fit.inside (c + 1) (omega arith))
-
-  pub clause-words : {words : List ℕ} → words ≡ slice_range literals (get_or starts c 0) (get_or starts (c + 1) 0) → ClauseWords starts literals c words
-  unfolding clause_at
-  clause-words {words} is =
-      let from = get_or starts c 0 in
-      let end = get_or starts (c + 1) 0 in
-      let long : length words ≤ end - from = rw is (omega (arith, length-take (end - from) (drop from literals))) in
-      let within = get_d-rising starts clauses fit.rising (c + 1) (omega arith) in
-      record {
-        is = is;
-        few = omega (arith, long, fit.inside (c + 1) (omega arith));
-        small = λ i b.
-            let inside : i < end - from = omega arith in
-            let word = get_or-take (end - from) (drop from literals) i 0 inside ∙ get_or-drop from literals i 0 in
-            rw (is, word) (fit.words (from + i) (omega arith));
-      }
+use Rattle.counters.specs.ClauseWords.{ClauseWords}
+use Rattle.counters.specs.ByNumber.{first_open, open_word, may_set_at, zero_left, one_left, some-left, may-by-place}
 
 -- ── the first word that is not false ──
 
-module _ (values : Values) (words : List ℕ) (i : ℕ) {x : ℕ} (left : i + first_open values (drop i words) ≡ x) where
-  module _ (less : i < length words) {r : Bool} (value : r ≡ false_word values (get_or words i 0)) where
-    pub open_turn : r ≡ true → i + 1 + first_open values (drop (i + 1) words) ≡ x
-    unfolding first_open
-    open_turn t =
-        let next : i + 1 ≡ suc i = omega arith in
-        let e = sym value ∙ t in
-        let h = rw (drop-cons words i 0 less, first_open, e) at left in
-        rw next (omega (arith, h))
-
-    pub open-hit : r ≡ false → x ≡ i
-    unfolding first_open
-    open-hit f =
-        let e = sym value ∙ f in
-        let h = rw (drop-cons words i 0 less, first_open, e) at left in
-        omega (arith, h)
-
-  pub open-end : length words ≤ i → x ≡ i
+module _ (values : Values) where
+  open-few : (words : List ℕ) → first_open values words ≤ length words
   unfolding first_open
-  open-end h = let e = rw (drop_all i words h, first_open) at left in omega (arith, e)
+  open-few [] = omega arith
+  open-few (w ∷ ws) = by-test (false_word values w) (λ f. rw (f, first_open) (omega (arith, open-few ws))) (λ f. rw (f, first_open) (omega arith))
+
+  open-is : (words : List ℕ) → first_open values words ≡ position_or_len (open_word values) words
+  unfolding first_open
+  open-is [] = refl
+  open-is (w ∷ ws) = by-test (false_word values w) (λ f. rw (f, first_open) (omega (arith, open-is ws))) (λ f. rw (f, first_open))
+
+  pub open-place : (words : List ℕ) {o : Option ℕ}
+      → o ≡ cond (ltb (position_or_len (open_word values) words) (length words)) (Some (position_or_len (open_word values) words)) None
+      → MatchOption o (first_open values words ≡ length words) (λ at. (first_open values words ≡ at) × (at < length words))
+  open-place words is =
+      let n = position_or_len (open_word values) words in
+      let e = open-is words in
+      by-test (ltb n (length words))
+      (λ t. rw (is, t) (e, ltb-true n (length words) t))
+      (λ t. rw (is, t) (omega (arith, e, open-few words, ltb-false n (length words) t)))
 
 -- ── what it asks for ──
 

@@ -16,44 +16,52 @@ fn first_open(values: &Values, clause: &[u16]) -> Option<usize>
     ensures { MatchOption result (first_open values.now clause.now ≡ length clause.now)
         (λ at. (first_open values.now clause.now ≡ at) × (at < length clause.now)) }
 {
-    for (at, w) in clause.iter().enumerate() {
-        if !values::is_false(values, *w) {
-            return Some(at);
+    clause.iter().position(|w| !values::is_false(values, *w))
+}
+
+// The clauses as step A reads them: under the values, with the numbers of goal clauses and of goal atoms.
+#[derive(Clone, Copy, Drop)]
+struct Clauses<'a> {
+    values: &'a Values,
+    store: &'a ClauseStore,
+    given: usize,
+    goals: usize,
+    ghost few_goals: { goals ≤ 256 },
+}
+
+impl Clauses<'_> {
+    // Whether clause c may set a literal that so many false ones stand before: where the negated heads are among these, all heads are true.
+    #[tactic(auto, unfolding(crate::specs::ByNumber::may_set_at))]
+    fn may_set(&self, c: usize, w: u16, before: usize) -> bool
+        requires { c < self.now.given + 512 }
+        ensures { result ≡ may_set_at self.now.store.now.heads self.now.given self.now.goals c w before }
+    {
+        if usize::from(w) < 2 * self.goals {
+            return true;
+        }
+        if c < self.given {
+            return false;
+        }
+        usize::from(self.store.heads[c - self.given]) <= before
+    }
+
+    // What clause c asks for, where at most one of its literals is not false: with none it is a conflict, and one is unset.
+    fn act(&self, c: usize) -> UnitAct
+        requires { ClausesFit self.now.store.now.starts self.now.store.now.literals self.now.store.now.heads self.now.given (c + 1)
+            × (read_whole self.now.values.now (clause_at self.now.store.now.starts self.now.store.now.literals c) ≤ 1) }
+        ensures { result ≡ act_at self.now.values.now self.now.store.now.starts self.now.store.now.literals self.now.store.now.heads self.now.given self.now.goals c }
+    {
+        let clause = self.store.clause(c);
+        let Some(before) = first_open(self.values, clause) else {
+            return UnitAct::Conflict;
+        };
+        let w = clause[before];
+        if self.may_set(c, w, before) {
+            UnitAct::Force(w)
+        } else {
+            UnitAct::Nothing
         }
     }
-    None
-}
-
-// Whether clause c may set a literal that so many false ones stand before: where the negated heads are among these, all heads are true.
-#[tactic(auto, unfolding(crate::specs::ByNumber::may_set_at))]
-fn may_set(store: &ClauseStore, given: usize, goals: usize, c: usize, w: u16, before: usize) -> bool
-    requires { (goals ≤ 256) × (c < given + 512) }
-    ensures { result ≡ may_set_at store.now.heads given goals c w before }
-{
-    if usize::from(w) < 2 * goals {
-        return true;
-    }
-    if c < given {
-        return false;
-    }
-    usize::from(store.heads[c - given]) <= before
-}
-
-// What clause c asks for, where at most one of its literals is not false: with none it is a conflict, and one is unset.
-fn act_at(values: &Values, store: &ClauseStore, given: usize, goals: usize, c: usize) -> UnitAct
-    requires { (goals ≤ 256) × ClausesFit store.now.starts store.now.literals store.now.heads given (c + 1)
-        × (read_whole values.now (clause_at store.now.starts store.now.literals c) ≤ 1) }
-    ensures { result ≡ act_at values.now store.now.starts store.now.literals store.now.heads given goals c }
-{
-    let clause = store.clause(c);
-    let Some(before) = first_open(values, clause) else {
-        return UnitAct::Conflict;
-    };
-    let w = clause[before];
-    if may_set(store, given, goals, c, w, before) {
-        return UnitAct::Force(w);
-    }
-    UnitAct::Nothing
 }
 
 impl Counters {
@@ -71,9 +79,15 @@ impl Counters {
             ≡ counters_of values.now (λ c. clause_at store.now.starts store.now.literals c) clauses)) }
         ensures { result ≡ act_from values.now store.now.starts store.now.literals store.now.heads given goals 0 clauses }
     {
+        let read = Clauses {
+            values,
+            store,
+            given,
+            goals,
+        };
         let mut from = 0;
         while let Some(c) = sets::first_between(&self.asking, from, clauses) {
-            match act_at(values, store, given, goals, c) {
+            match read.act(c) {
                 UnitAct::Nothing => from = c + 1,
                 act => return act,
             }

@@ -1,6 +1,6 @@
 -- `Counters::enter_all` meets its contract, clause by clause. Assumes nothing.
 use Rattle.std.proofs.Common.{sym, arith}
-use Rattle.counters.proofs.ClauseTurns.{clause-words}
+use Rattle.counters.specs.ClauseWords.{clause-words}
 use Rattle.counters.proofs.Counters.enter_all.Goals as goal
 
 pub enter-requires : goal.enter-requires

@@ -5,11 +5,10 @@ use Rattle.counters.specs.Asking.{its-number, asks-few, ask-next}
 use Rattle.counters.proofs.ActTurns.{fit-first, act-turn, act-found, act-end}
 use Rattle.counters.proofs.Counters.next_act.Goals as goal
 
-pub act_at-requires : goal.act_at-requires
-act_at-requires c =
+pub act-requires : goal.act-requires
+act-requires c =
     let few : c.args.clauses ≤ 640 = omega (arith, c.requires.1.limit) in
     let (from, below, asks, none) = c.in-Some.ensures in (
-      c.requires.0,
       fit-first _ _ (omega arith) c.requires.1,
       omega (arith, its-number _ _ _ few c.requires.2.1 _ below, asks-few _ _ _ few c.requires.2.1 _ below asks),
     )
@@ -18,13 +17,13 @@ pub loop-c-preserved : goal.loop-c-preserved
 loop-c-preserved c =
     let (from, below, asks, none) = c.in-Some.ensures in
     let left = ask-next _ _ _ _ _ _ _ (omega (arith, c.requires.1.limit)) c.requires.2.1 _ _ from none c.loop-c.invariant.left in
-    record { within = omega arith; left = act-turn _ _ _ _ _ _ _ _ left below c.act_at.ensures c.in-Nothing.is }
+    record { within = omega arith; left = act-turn _ _ _ _ _ _ _ _ left below c.act.ensures c.in-Nothing.is }
 
-pub returns-in_default-act_at : goal.returns-in_default-act_at
-returns-in_default-act_at c =
+pub returns-in_default-act : goal.returns-in_default-act
+returns-in_default-act c =
     let (from, below, asks, none) = c.in-Some.ensures in
     let left = ask-next _ _ _ _ _ _ _ (omega (arith, c.requires.1.limit)) c.requires.2.1 _ _ from none c.loop-c.invariant.left in
-    act-found _ _ _ _ _ _ _ _ left below c.act_at.ensures c.in_default-act_at.not-Nothing
+    act-found _ _ _ _ _ _ _ _ left below c.act.ensures c.in_default-act.not-Nothing
 
 pub returns : goal.returns
 returns c =
