@@ -3,3 +3,4 @@ pub mod Lines
 pub mod JoinedLaws
 pub mod CodeParts
 pub mod ListingStands
+pub mod Writes

@@ -2,6 +2,8 @@
 // Each function puts its bytes from a place on and hands back the place behind them.
 #![tactic(auto)]
 
+pub mod writer; // writer.rt: a room that is written from its front
+
 ghost use Rattle.std.specs.Prelude.{ℕ, ◌+◌, ◌-◌, ◌≤◌, ◌<◌, ◌≡◌, true, [], ◌∷◌, map, length, get_or, take, drop};
 ghost use Rattle.encoding.specs.Lengths.{literal_array};
 ghost use Rattle.definitions.specs.Lists.{joined, up_from};
