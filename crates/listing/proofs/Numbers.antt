@@ -1,6 +1,9 @@
 -- Columns of 4 bytes one behind the other, and how many digits a number has. Assumes nothing.
-use Rattle.std.proofs.Common.{◌≡◌, ap, ◌∙◌, ℕ, suc, ◌+◌, ◌/◌, ◌≤◌, ◌<◌, List, [], ◌∷◌, ◌++◌, map, length, get_or, drop, length-append, append-nil, arith}
+use Rattle.std.proofs.Common.{◌≡◌, sym, ap, ◌∙◌, ℕ, suc, false, ◌+◌, ◌-◌, ◌/◌, ◌≤◌, ◌<◌, List, [], ◌∷◌, ◌++◌, map, length, get_or, drop, length-append, append-nil, arith}
 use Rattle.std.proofs.Math.Seq.{drop-cons}
+use Rattle.std.proofs.lemmas.List.{drop-drop}
+use Rattle.std.proofs.lemmas.List.Edits.{sets, sets-eq}
+use borrow.Rule.Slice.PartMut.{put_mid}
 use Rattle.std.specs.Prelude.{ltb}
 use lib.ListN.{drop_of_length-le}
 use Rattle.definitions.specs.Lists.{joined}
@@ -9,7 +12,7 @@ use Rattle.definitions.specs.Listing.{field_bytes, narrow, decimals}
 use Rattle.theory.specs.Tests.{by-test}
 use Rattle.column.specs.Places.{PutLast}
 use Rattle.column.specs.Widths.{decimals-last, decimals-more, decimals-exact}
-use Rattle.listing.specs.Puts.{Put}
+use Rattle.listing.specs.Puts.{Put, Parts}
 use Rattle.listing.specs.Lines.{column_bytes}
 
 -- a column, and those behind it
@@ -20,10 +23,11 @@ columns-cons n ns = rw (append-nil (field_bytes (narrow n)))
 -- the numbers from the i-th on
 module _ (sizes : List ℕ) (i : ℕ) where
   pub numbers-first : i < length sizes
-      → column_bytes (map plus (drop i sizes)) ≡ column_bytes (plus (get_or sizes i 0) ∷ []) ++ column_bytes (map plus (drop (i + 1) sizes))
+      → Parts (column_bytes (map plus (drop i sizes))) (column_bytes (record { negative = false; size = get_or sizes i 0 } ∷ [])) (column_bytes (map plus (drop (i + 1) sizes)))
+  unfolding plus
   numbers-first h =
       let e : i + 1 ≡ suc i = omega arith in
-      rw (e, drop-cons sizes i 0 h) (columns-cons (plus (get_or sizes i 0)) (map plus (drop (suc i) sizes)))
+      record { whole = rw (e, drop-cons sizes i 0 h) (columns-cons (plus (get_or sizes i 0)) (map plus (drop (suc i) sizes))) }
 
   pub numbers-none : length sizes ≤ i → column_bytes (map plus (drop i sizes)) ≡ []
   unfolding column_bytes joined
@@ -53,3 +57,12 @@ module _ (n : ℕ) where
       let same : decimals width n ≡ decimals 3 n = ap (λ (w : ℕ). decimals w n) e ∙ decimals-exact 3 n in
       let none : at + left ≡ at = omega (arith, put.count, ap length same) in
       record { place = ap (λ (w : ℕ). at + w) e; stored = rw (none, same) at put.stored }
+
+-- ── bytes ──
+
+-- bytes that are copied into their part of the room
+pub part-put : (room bytes part : List ℕ) (at : ℕ) → part ≡ bytes → at + length bytes ≤ length room
+    → put_mid at (at + length bytes - at) room part ≡ sets room at bytes
+part-put room bytes part at e fits =
+    let k : at + length bytes - at ≡ length bytes = omega arith in
+    rw (e, k, drop-drop (length bytes) at room, sets-eq bytes room at fits)

@@ -4,3 +4,4 @@ pub mod JoinedLaws
 pub mod CodeParts
 pub mod ListingStands
 pub mod Writes
+pub mod Left

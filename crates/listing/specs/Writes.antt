@@ -1,46 +1,21 @@
 -- What a writer has written, and what it is still to write. Assumes nothing.
-use Rattle.std.specs.Prelude.{ℕ, ◌+◌, ◌≤◌, ◌≡◌, List, [], ◌++◌, length}
-use Rattle.std.proofs.Common.{refl, ap, ◌∙◌, arith, length-append}
+use Rattle.std.specs.Prelude.{ℕ, ◌+◌, ◌≤◌, ◌≡◌, refl, List, [], ◌++◌, length}
+use Rattle.std.proofs.Common.{ap, ◌∙◌, arith}
 use Rattle.std.proofs.lemmas.List.Edits.{sets}
 use Rattle.std.proofs.Math.Seq.{length-sets}
-use Rattle.column.specs.Sets.{sets-append}
-use Rattle.listing.specs.Puts.{Put, Putting, Parts, put-none-yet, put_first, put_all, put-first-room}
+use Rattle.listing.specs.Puts.{Put, Putting, Parts, parts-room, put-none-yet, put-room, put_last, put_first, put_all, put-first-room}
 use Rattle.listing.specs.declared.writer.Writer.{Writer}
 
 -- the bytes have room behind those that are written
-abbrev pub HasRoom : Writer → List ℕ → Type 0
-HasRoom w bytes = w.at + length bytes ≤ length w.room.now
+pub record HasRoom (w : Writer) (bytes : List ℕ) : Type 0 where
+  pub fits : w.at + length bytes ≤ length w.room.now
 
 -- the bytes are written behind those that were, in the same room
 pub record Writes (w : Writer) (bytes : List ℕ) (w' : Writer) : Type 0 where
   pub same : w'.room.ghost_name ≡ w.room.ghost_name
   pub put : Put w.room.now w.at bytes w'.at w'.room.now
 
--- ── one after the other ──
-
-pub room-first : {w : Writer} {first more : List ℕ} → HasRoom w (first ++ more) → HasRoom w first
-room-first {w} {first} {more} r = omega (arith, length-append first more)
-
-module _ {w w1 : Writer} {first : List ℕ} (h : Writes w first w1) where
-  as_long : length w1.room.now ≡ length w.room.now
-  as_long = ap length h.put.stored ∙ length-sets w.room.now w.at first
-
-  pub room-behind : {more : List ℕ} → HasRoom w (first ++ more) → HasRoom w1 more
-  room-behind {more} r = omega (arith, h.put.place, as_long, length-append first more)
-
-  pub writes-then : {w2 : Writer} {more : List ℕ} → Writes w1 more w2 → Writes w (first ++ more) w2
-  writes-then {w2} {more} g =
-      record {
-        same = g.same ∙ h.same;
-        put = record {
-          place = omega (arith, h.put.place, g.put.place, length-append first more);
-          stored = g.put.stored ∙ rw (h.put.stored, h.put.place) (sets-append w.room.now w.at first more);
-        };
-      }
-
--- ── the turns of a loop ──
-
--- the room is as if all bytes had been written, once the rest is
+-- once the rest is written, all bytes are
 pub record Writing (w : Writer) (bytes rest : List ℕ) (now : Writer) : Type 0 where
   pub same : now.room.ghost_name ≡ w.room.ghost_name
   pub putting : Putting w.room.now w.at bytes rest now.at now.room.now
@@ -49,15 +24,44 @@ pub writing-all : {w : Writer} {bytes rest : List ℕ} → rest ≡ bytes → Wr
 writing-all e = record { same = refl; putting = put-none-yet e }
 
 module _ {w now : Writer} {bytes rest : List ℕ} (h : Writing w bytes rest now) where
+  pub writing-room : HasRoom w bytes → HasRoom now rest
+  writing-room r = record { fits = put-room h.putting r.fits }
+
+  pub writing-last : {next : Writer} → Writes now rest next → Writes w bytes next
+  writing-last g = record { same = g.same ∙ h.same; put = put_last h.putting g.put }
+
+  -- nothing is left
   pub writing-none : rest ≡ [] → Writes w bytes now
   writing-none e = record { same = h.same; put = put_all h.putting e }
 
-  module _ {first more : List ℕ} (e : rest ≡ first ++ more) where
-    parts : Parts rest first more
-    parts = record { whole = e }
-
-    pub writing-room : HasRoom w bytes → HasRoom now first
-    writing-room r = put-first-room h.putting parts r
+  module _ {first more : List ℕ} (parts : Parts rest first more) where
+    pub writing-first-room : HasRoom w bytes → HasRoom now first
+    writing-first-room r = record { fits = put-first-room h.putting parts r.fits }
 
     pub writing-first : {next : Writer} → Writes now first next → Writing w bytes more next
     writing-first g = record { same = g.same ∙ h.same; putting = put_first h.putting parts g.put }
+
+-- ── bytes in two parts ──
+
+module _ {w : Writer} {bytes first more : List ℕ} (parts : Parts bytes first more) where
+  pub first-room : HasRoom w bytes → HasRoom w first
+  first-room r = record { fits = parts-room parts w.at (length w.room.now) r.fits }
+
+  module _ {w1 : Writer} (h : Writes w first w1) where
+    begun : Writing w bytes more w1
+    begun = writing-first (writing-all refl) parts h
+
+    pub more-room : HasRoom w bytes → HasRoom w1 more
+    more-room r = writing-room begun r
+
+    pub both-written : {w2 : Writer} → Writes w1 more w2 → Writes w bytes w2
+    both-written g = writing-last begun g
+
+-- ── a room of which nothing is written yet ──
+
+module _ {w : Writer} {room : List ℕ} (same : w.room.now ≡ room) (none : w.at ≡ 0) where
+  pub new-room : (bytes : List ℕ) → length bytes ≤ length room → HasRoom w bytes
+  new-room bytes fits = record { fits = omega (arith, ap length same) }
+
+  pub new-put : {bytes : List ℕ} {w' : Writer} → Writes w bytes w' → Put room 0 bytes w'.at w'.room.now
+  new-put h = rw (same, none) at h.put

@@ -38,6 +38,15 @@ impl<'a> Writer<'a> {
         self.at += 1;
     }
 
+    pub fn bytes(&mut self, bytes: &[u8])
+        requires { HasRoom self.old bytes.now }
+        ensures { Writes self.old bytes.now self.new }
+    {
+        let end = self.at + bytes.len();
+        self.room[self.at..end].copy_from_slice(bytes);
+        self.at = end;
+    }
+
     // A number in a column of 4 bytes.
     pub fn number(&mut self, negative: bool, size: u16)
         requires room { HasRoom self.old (column_bytes (record { negative = negative; size = size } ∷ [])) }

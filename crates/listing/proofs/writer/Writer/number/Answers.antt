@@ -1,5 +1,5 @@
 -- `Writer::number` meets its contract: a column of four bytes. Assumes nothing.
-use Rattle.std.proofs.Common.{◌∙◌, refl, arith}
+use Rattle.std.proofs.Common.{refl, arith}
 use Rattle.listing.proofs.Columns.{column-length, column-put}
 use Rattle.listing.proofs.writer.Writer.number.Goals as goal
 
