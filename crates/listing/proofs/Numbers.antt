@@ -1,5 +1,5 @@
 -- Columns of 4 bytes one behind the other, and how many digits a number has. Assumes nothing.
-use Rattle.std.proofs.Common.{◌≡◌, sym, ap, ◌∙◌, ℕ, suc, false, ◌+◌, ◌-◌, ◌/◌, ◌≤◌, ◌<◌, List, [], ◌∷◌, ◌++◌, map, length, get_or, drop, length-append, append-nil, arith}
+use Rattle.std.proofs.Common.{◌≡◌, ap, ◌∙◌, ℕ, suc, false, ◌+◌, ◌-◌, ◌/◌, ◌≤◌, ◌<◌, List, [], ◌∷◌, ◌++◌, map, length, get_or, drop, length-append, append_assoc, append-nil, arith}
 use Rattle.std.proofs.Math.Seq.{drop-cons}
 use Rattle.std.proofs.lemmas.List.{drop-drop}
 use Rattle.std.proofs.lemmas.List.Edits.{sets, sets-eq}
@@ -65,4 +65,4 @@ pub part-put : (room bytes part : List ℕ) (at : ℕ) → part ≡ bytes → at
     → put_mid at (at + length bytes - at) room part ≡ sets room at bytes
 part-put room bytes part at e fits =
     let k : at + length bytes - at ≡ length bytes = omega arith in
-    rw (e, k, drop-drop (length bytes) at room, sets-eq bytes room at fits)
+    rw (e, k, drop-drop (length bytes) at room, sets-eq bytes room at fits, append_assoc)

@@ -1,11 +1,11 @@
 -- The listing made of what is left of a search is the listing of its state: by codes the atoms, by words the logged
 -- clauses, by values the settings. Assumes nothing.
-use Rattle.std.specs.Prelude.{ℕ, ◌-◌, ◌*◌, ◌≤◌, ◌≡◌, not, length}
+use Rattle.std.specs.Prelude.{ℕ, ◌-◌, ◌*◌, ◌≡◌, not, length}
 use Rattle.std.proofs.Math.Path.{refl, sym, ap}
 use Rattle.std.proofs.Common.{◌∙◌, arith}
 use Rattle.std.proofs.Math.Option.{some}
 use mathlib.Core.List.Memᴰ
-use mathlib.Core.List.{List, [], ◌∷◌, ◌++◌, map, append-nil, append_assoc}
+use mathlib.Core.List.{[], ◌∷◌, ◌++◌, map, append-nil, append_assoc}
 use Rattle.std.proofs.Math.ListN.{get_elem?, length-map}
 use Rattle.definitions.specs.Lists.{◌∈◌, joined, filter}
 use Rattle.definitions.specs.Words.{Atom, Literal, negate, plain, Clause, Problem, position}
@@ -25,7 +25,7 @@ use Rattle.encoding.specs.Encoding.{atom_code, literal_word, clause_words}
 use Rattle.encoding.specs.PositionLaws.{code_at}
 use Rattle.encoding.specs.HoldLaws.{searchable-encodable, plain-limits}
 use Rattle.encoding.specs.Signs.{number_of, number_word_lem}
-use Rattle.encoding.specs.Values.{Values, unset_at, false_word}
+use Rattle.encoding.specs.Values.{unset_at, false_word}
 use Rattle.encoding.specs.WordTruths.{unset-at, false-word}
 use Rattle.encoding.specs.ArrayLaws.{front_at}
 use Rattle.units.specs.LiteralWords.{word-plain}

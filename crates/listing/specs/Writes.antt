@@ -1,8 +1,6 @@
 -- What a writer has written, and what it is still to write. Assumes nothing.
-use Rattle.std.specs.Prelude.{ℕ, ◌+◌, ◌≤◌, ◌≡◌, refl, List, [], ◌++◌, length}
+use Rattle.std.specs.Prelude.{ℕ, ◌+◌, ◌≤◌, ◌≡◌, refl, List, [], length}
 use Rattle.std.proofs.Common.{ap, ◌∙◌, arith}
-use Rattle.std.proofs.lemmas.List.Edits.{sets}
-use Rattle.std.proofs.Math.Seq.{length-sets}
 use Rattle.listing.specs.Puts.{Put, Putting, Parts, parts-room, put-none-yet, put-room, put_last, put_first, put_all, put-first-room}
 use Rattle.listing.specs.declared.writer.Writer.{Writer}
 

@@ -1,8 +1,8 @@
 -- `put_listing` meets its contract: the lines of what is left of the search are the listing. Assumes nothing.
-use Rattle.std.proofs.Common.{length, refl, arith}
+use Rattle.std.proofs.Common.{arith}
 use Rattle.listing.specs.Puts.{as_written}
-use Rattle.listing.specs.Left.{listing_of, Listable}
-use Rattle.listing.specs.Writes.{HasRoom, first-room, more-room, both-written, new-room, new-put}
+use Rattle.listing.specs.Left.{listing_of}
+use Rattle.listing.specs.Writes.{first-room, more-room, both-written, new-room, new-put}
 use Rattle.listing.specs.ListingStands.{listing-stands, finished-listable}
 use Rattle.listing.proofs.Parts.{listing-first}
 use Rattle.listing.proofs.put_listing.Goals as goal

@@ -1,5 +1,5 @@
 -- `put_literal` meets its contract: the symbol, and then the constants. Assumes nothing.
-use Rattle.std.proofs.Common.{refl, arith}
+use Rattle.std.proofs.Common.{refl}
 use Rattle.listing.specs.Writes.{first-room, more-room, both-written}
 use Rattle.listing.proofs.Parts.{literal-first}
 use Rattle.listing.proofs.put_literal.Goals as goal

@@ -1,5 +1,5 @@
 -- `put_log` meets its contract: a line each turn, and those from `n` on are still to be written. Assumes nothing.
-use Rattle.std.proofs.Common.{◌≡◌, refl, ◌-◌, arith}
+use Rattle.std.proofs.Common.{◌≡◌, ◌-◌, arith}
 use Rattle.listing.specs.JoinedLaws.{joined-first, joined-none}
 use Rattle.listing.specs.Lines.{log_bytes}
 use Rattle.listing.specs.Left.{logged_of}

@@ -1,8 +1,8 @@
 -- `put_logged` meets its contract: three numbers, the literals and LF. Assumes nothing.
-use Rattle.std.proofs.Common.{refl, arith}
+use Rattle.std.proofs.Common.{refl}
 use Rattle.listing.specs.Puts.{as_written}
 use Rattle.listing.specs.Writes.{first-room, more-room, both-written}
-use Rattle.listing.proofs.Parts.{clause-inside, words-small, logged-first}
+use Rattle.listing.proofs.Parts.{words-small, logged-first}
 use Rattle.units.specs.Units.{clause_at}
 use Rattle.listing.proofs.put_logged.Goals as goal
 

@@ -1,5 +1,5 @@
 -- `put_setting` meets its contract: no line, or that of the atom's literal. Assumes nothing.
-use Rattle.std.proofs.Common.{refl, arith}
+use Rattle.std.proofs.Common.{refl}
 use Rattle.listing.specs.Puts.{as_written}
 use Rattle.listing.specs.Writes.{writing-all, writing-none, first-room, more-room, both-written}
 use Rattle.listing.proofs.Parts.{setting-unset, setting-first}
@@ -22,4 +22,4 @@ byte-requires c =
 pub returns : goal.returns
 returns c =
     both-written (setting-first c.args.searched.now c.args.i c.is_unset.ensures c.if-is_unset.false c.is_false-negative.ensures) c.numbers.ensures
-        (both-written as_written c.put_literal.ensures c.byte.ensures)
+    (both-written as_written c.put_literal.ensures c.byte.ensures)

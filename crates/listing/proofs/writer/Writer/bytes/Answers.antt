@@ -1,5 +1,5 @@
 -- `Writer::bytes` meets its contract: what is copied stands behind what was written. Assumes nothing.
-use Rattle.std.proofs.Common.{refl, arith}
+use Rattle.std.proofs.Common.{refl}
 use Rattle.listing.proofs.Numbers.{part-put}
 use Rattle.listing.proofs.writer.Writer.bytes.Goals as goal
 

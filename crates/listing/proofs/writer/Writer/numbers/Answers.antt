@@ -1,5 +1,5 @@
 -- `Writer::numbers` meets its contract: a number each turn, and those behind it are still to be written. Assumes nothing.
-use Rattle.std.proofs.Common.{refl, arith}
+use Rattle.std.proofs.Common.{arith}
 use Rattle.listing.specs.Writes.{writing-first-room, writing-first, writing-none}
 use Rattle.listing.proofs.Numbers.{numbers-first, numbers-none}
 use Rattle.listing.proofs.writer.Writer.numbers.Goals as goal
