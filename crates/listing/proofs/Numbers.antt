@@ -10,9 +10,10 @@ use Rattle.definitions.specs.Lists.{joined}
 use Rattle.definitions.specs.Sheet.{Number, plus}
 use Rattle.definitions.specs.Listing.{field_bytes, narrow, decimals}
 use Rattle.theory.specs.Tests.{by-test}
+use Rattle.column.specs.Sets.{sets-front}
 use Rattle.column.specs.Places.{PutLast}
 use Rattle.column.specs.Widths.{decimals-last, decimals-more, decimals-exact}
-use Rattle.listing.specs.Puts.{Put, Parts}
+use Rattle.listing.specs.Puts.{Parts}
 use Rattle.listing.specs.Lines.{column_bytes}
 
 -- a column, and those behind it
@@ -51,12 +52,12 @@ module _ (n : ℕ) where
       rw (decimals-more 2 n (omega arith), length-append, decimals-more 1 (n / 10) (omega arith), length-append, one_place (n / 10 / 10))
 
   -- in as many places as there are digits, nothing is left before them
-  pub digits-put : {room : List ℕ} {at width left : ℕ} {after : List ℕ} → width ≡ length (decimals 3 n)
-      → PutLast room at width (decimals width n) left after → Put room at (decimals 3 n) (at + width) after
-  digits-put {room} {at} {width} {left} e put =
-      let same : decimals width n ≡ decimals 3 n = ap (λ (w : ℕ). decimals w n) e ∙ decimals-exact 3 n in
-      let none : at + left ≡ at = omega (arith, put.count, ap length same) in
-      record { place = ap (λ (w : ℕ). at + w) e; stored = rw (none, same) at put.stored }
+  pub digits-whole : {field : List ℕ} {left : ℕ} {after : List ℕ} → length field ≡ length (decimals 3 n)
+      → PutLast field (length field) (decimals (length field) n) left after → after ≡ decimals 3 n
+  digits-whole {field} {left} e put =
+      let same : decimals (length field) n ≡ decimals 3 n = ap (λ (w : ℕ). decimals w n) e ∙ decimals-exact 3 n in
+      let none : left ≡ 0 = omega (arith, put.count, ap length same) in
+      put.stored ∙ rw (none, same, sets-front field (decimals 3 n) (omega arith), ← e, drop-length, append-nil)
 
 -- ── bytes ──
 

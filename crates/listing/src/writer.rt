@@ -53,8 +53,9 @@ impl<'a> Writer<'a> {
         requires fits { negative ≡ true → size < 1000 }
         ensures { Writes self.old (column_bytes (record { negative = negative; size = size } ∷ [])) self.new }
     {
-        column::put_narrow(self.room, self.at, negative, size);
-        self.at += 4;
+        let end = self.at + 4;
+        column::put_narrow(&mut self.room[self.at..end], negative, size);
+        self.at = end;
     }
 
     // Numbers without a sign, each in such a column.
@@ -72,8 +73,9 @@ impl<'a> Writer<'a> {
         requires { HasRoom self.old (field_bytes (wide n)) }
         ensures { Writes self.old (field_bytes (wide n)) self.new }
     {
-        column::put_wide(self.room, self.at, n);
-        self.at += 12;
+        let end = self.at + 12;
+        column::put_wide(&mut self.room[self.at..end], n);
+        self.at = end;
     }
 
     // A number with no blanks before it, three digits at most.
@@ -86,7 +88,8 @@ impl<'a> Writer<'a> {
             10..=99 => 2,
             _ => 3,
         };
-        column::put_digits(self.room, self.at, width, n);
-        self.at += width;
+        let end = self.at + width;
+        column::put_digits(&mut self.room[self.at..end], n);
+        self.at = end;
     }
 }
