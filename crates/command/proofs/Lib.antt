@@ -1,3 +1,2 @@
-pub mod SameWords
 pub mod Numerals
 pub mod Orders

@@ -77,18 +77,9 @@ pub struct Exported {
     pub length: usize,
 }
 
-// A word of the command that is to be a number of 32 bits.
-#[derive(Clone, Copy, Drop)]
-pub enum Numeral {
-    Value(u32),
-    NoNumber,
-}
-
-// What the command's words order: the listing or the clauses, with the budget of the search; or they are no words of it, and it says which
-// are.
+// What the command's words order: the listing or the clauses, with the budget of the search.
 #[derive(Clone, Copy, Drop)]
 pub enum Order {
     Listing(u32),
     Cnf(u32),
-    Usage,
 }
