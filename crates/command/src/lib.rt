@@ -1,5 +1,7 @@
-// What the command is to do, by the words behind its name.
+// What the command is to do, by the words behind its name; and how it reads.
 #![tactic(auto)]
+
+pub mod input; // input.rt: reading a stream
 
 ghost use Rattle.std.specs.Prelude.{◌≡◌, List, [], ◌∷◌, map, ℕ, length, take};
 ghost use Rattle.definitions.specs.Command.{numeral, printed_by, budgeted, order};
