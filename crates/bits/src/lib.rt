@@ -2,6 +2,7 @@
 #![tactic(auto)]
 
 pub mod long; // long.rt: words of 64 bits
+pub mod sets; // sets.rt: sets of numbers, 64 to a word
 
 ghost use Rattle.std.specs.Prelude.{◌≡◌, ◌-◌, ◌^◌, ◌<◌};
 ghost use Rattle.std.specs.Int.Bits.{bit_or};

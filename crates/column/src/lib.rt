@@ -1,20 +1,22 @@
 // One decimal column: read from four bytes, written into four or twelve.
 #![tactic(auto)]
 
-ghost use Rattle.std.specs.Prelude.{◌+◌, ◌<◌, ◌≤◌, ◌≡◌, true, [], ◌∷◌, length, take, drop, replicate};
+ghost use Rattle.std.specs.Prelude.{◌+◌, ◌<◌, ◌≤◌, ◌≡◌, true, [], ◌∷◌, length, take, drop, replicate, IfErr};
 ghost use Rattle.std.proofs.lemmas.List.Edits.{sets};
+ghost use Rattle.definitions.specs.declared.Question.TheVariants.{Columns};
 ghost use Rattle.definitions.specs.Sheet.{digits, natural, decimal};
 ghost use Rattle.definitions.specs.Listing.{decimals, signed_decimals, field_bytes, narrow, wide};
 ghost use Rattle.column.specs.Column.{column_of, size_of};
 ghost use Rattle.column.specs.Scan.{read_on, size_before, ReadAs};
 ghost use Rattle.column.specs.Places.{sign, PutLast};
 
-// What stands in a column: a number, its sign apart from its size; nothing, where it is blank; or a fault.
+use definitions::Question;
+
+// A number, its sign apart from its size.
 #[derive(Clone, Copy, Drop)]
-pub enum ColumnRead {
-    Number { negative: bool, size: u16 },
-    Nothing,
-    Fault,
+pub struct Number {
+    pub negative: bool,
+    pub size: u16,
 }
 
 // What the bytes of a column are up to some place.
@@ -23,94 +25,91 @@ enum Scan {
     Blanks,
     Minus,
     Zero,
-    Digits { negative: bool, size: u16 },
-    Failed,
+    Digits(Number),
 }
 
 // The scan after a byte that is to be a digit.
-fn digit(negative: bool, size: u16, b: u8) -> Scan
-    requires { size ≤ 999 }
-    ensures { ReadAs (λ rest. digits negative size (b ∷ rest)) size result }
+fn digit(number: Number, b: u8) -> Result<Scan, Question>
+    requires { number.size ≤ 999 }
+    ensures { ReadAs (λ rest. digits number.negative number.size (b ∷ rest)) number.size result }
 {
-    if b < 48 {
-        return Scan::Failed;
+    if b < b'0' {
+        return Err(Question::Columns);
     }
-    if 57 < b {
-        return Scan::Failed;
+    if b'9' < b {
+        return Err(Question::Columns);
     }
-    Scan::Digits {
-        negative,
-        size: size * 10 + (b - 48) as u16,
-    }
+    Ok(Scan::Digits(Number {
+        size: number.size * 10 + u16::from(b - b'0'),
+        ..number
+    }))
 }
 
 // The scan after a byte that is to be the first digit of several, and so no 0.
-fn first_digit(negative: bool, b: u8) -> Scan
+fn first_digit(negative: bool, b: u8) -> Result<Scan, Question>
     ensures { ReadAs (λ rest. natural negative (b ∷ rest)) 0 result }
 {
-    if b < 49 {
-        return Scan::Failed;
+    if b < b'1' {
+        return Err(Question::Columns);
     }
-    digit(negative, 0, b)
+    digit(Number { negative, size: 0 }, b)
 }
 
 // The scan after a byte that has only blanks before it.
-fn first(b: u8) -> Scan
+fn first(b: u8) -> Result<Scan, Question>
     ensures { ReadAs (λ rest. decimal (b ∷ rest)) 0 result }
 {
-    if b == 32 {
-        return Scan::Blanks;
+    match b {
+        b' ' => Ok(Scan::Blanks),
+        b'-' => Ok(Scan::Minus),
+        b'0' => Ok(Scan::Zero),
+        _ => first_digit(false, b),
     }
-    if b == 45 {
-        return Scan::Minus;
-    }
-    if b == 48 {
-        return Scan::Zero;
-    }
-    first_digit(false, b)
 }
 
 // The scan after one byte more.
-fn step(scan: Scan, b: u8) -> Scan
+fn step(scan: Scan, b: u8) -> Result<Scan, Question>
     requires { size_before scan ≤ 999 }
     ensures { ReadAs (λ rest. read_on scan (b ∷ rest)) (size_before scan) result }
 {
     match scan {
         Scan::Blanks => first(b),
         Scan::Minus => first_digit(true, b),
-        Scan::Digits { negative, size } => digit(negative, size, b),
-        Scan::Zero => Scan::Failed,
-        Scan::Failed => Scan::Failed,
+        Scan::Digits(number) => digit(number, b),
+        Scan::Zero => Err(Question::Columns),
     }
 }
 
 // The column, once all of its bytes are scanned.
-fn finish(scan: Scan) -> ColumnRead
-    ensures { (column_of result ≡ read_on scan []) × (size_of result ≤ size_before scan) }
+#[tactic(auto, unfolding(crate::specs::Column::column_of, crate::specs::Column::size_of, crate::specs::Scan::read_on, crate::specs::Scan::size_before, definitions::specs::Sheet::digits, definitions::specs::Sheet::natural, definitions::specs::Sheet::decimal, definitions::specs::Sheet::plus, definitions::specs::Lists::is_empty))]
+fn finish(scan: Scan) -> Result<Option<Number>, Question>
+    ensures reads { column_of result ≡ read_on scan [] }
+    ensures small { size_of result ≤ size_before scan }
+    ensures question { IfErr result (λ q. q ≡ Columns) }
 {
     match scan {
-        Scan::Digits { negative, size } => ColumnRead::Number { negative, size },
-        Scan::Zero => ColumnRead::Number {
+        Scan::Digits(number) => Ok(Some(number)),
+        Scan::Zero => Ok(Some(Number {
             negative: false,
             size: 0,
-        },
-        Scan::Blanks => ColumnRead::Nothing,
-        Scan::Minus => ColumnRead::Fault,
-        Scan::Failed => ColumnRead::Fault,
+        })),
+        Scan::Blanks => Ok(None),
+        Scan::Minus => Err(Question::Columns),
     }
 }
 
-// What stands in the four bytes from `at` on.
-pub fn read_column(s: &[u8], at: usize) -> ColumnRead
+// What stands in the four bytes from `at` on: a number, or nothing where they are blank.
+pub fn read_column(s: &[u8], at: usize) -> Result<Option<Number>, Question>
     requires { at + 4 ≤ length s.now }
     ensures reads { column_of result ≡ decimal (take 4 (drop at s.now)) }
     ensures small { size_of result ≤ 9999 }
+    ensures question { IfErr result (λ q. q ≡ Columns) }
 {
-    let one = first(s[at]);
-    let two = step(one, s[at + 1]);
-    let three = step(two, s[at + 2]);
-    let four = step(three, s[at + 3]);
-    finish(four)
+    let mut scan = Scan::Blanks;
+    for b in &s[at..at + 4] {
+        scan = step(scan, *b)?;
+    }
+    finish(scan)
 }
 
 // The digits of `size` in the last of the places from `at` on; how many places are left before them.

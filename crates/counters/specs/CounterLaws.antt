@@ -12,7 +12,8 @@ use Rattle.theory.specs.PlaceLaws.{get_d-places}
 use Rattle.bits.specs.Bits.{has, packed, has-packed, packed-below, packed-only, among}
 use Rattle.encoding.specs.CountLaws.{length-up_from, by_order}
 use Rattle.encoding.specs.Values.{Values}
-use Rattle.counters.specs.Counters.{Counters, read_whole, number_asks, row_bit, number, ask_bit, counters_of, counters, row_at}
+use Rattle.counters.specs.Counters.{read_whole, number_asks, row_bit, number, ask_bit, counters_of, counters, row_at}
+use Rattle.counters.specs.declared.Counters.{Counters}
 use Rattle.counters.specs.Weights.{once, weighs, whole-is-once}
 use Rattle.counters.specs.PlacesKept.{PlacesKept, kept_same, kept-none}
 

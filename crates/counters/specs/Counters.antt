@@ -9,6 +9,7 @@ use Rattle.std.proofs.Common.{Bor}
 use Rattle.encoding.specs.Lent.{Array, Lent, Shared}
 use Rattle.encoding.specs.Values.{Values, true_word}
 use Rattle.units.specs.Units.{not_false_words}
+use Rattle.counters.specs.declared.Counters.{Counters}
 
 -- ── a clause, read whole ──
 
@@ -32,14 +33,6 @@ unfoldable pub number_asks : ℕ → Bool
 number_asks n = leb n 1
 
 -- ── the arrays ──
-
-pub record Counters : Type 0 where
-  -- bit `c % 64` of word `10 * w + c / 64`: clause c holds word w
-  pub rows : List ℕ
-  -- the number of clause c
-  pub counts : List ℕ
-  -- bit `c % 64` of word `c / 64`: clause c asks
-  pub asking : List ℕ
 
 -- whether clause c holds word w, and whether it asks
 unfoldable pub row_at : List ℕ → ℕ → ℕ → Bool

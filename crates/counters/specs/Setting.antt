@@ -12,7 +12,8 @@ use Rattle.units.specs.Units.{clause_at, ClausesFit}
 use Rattle.counters.specs.Weights.{weighs, weighs-small, once-holds, once-bound, WeightStep, step_back}
 use Rattle.counters.specs.SetPasses.{halfway, halfway-small, other-small, SetsLiteral, first-pass, second-pass}
 use Rattle.counters.specs.PlacesKept.{PlacesKept, Moved, kept-moved}
-use Rattle.counters.specs.Counters.{Counters, counters_of, counters, row_at}
+use Rattle.counters.specs.Counters.{counters_of, counters, row_at}
+use Rattle.counters.specs.declared.Counters.{Counters}
 use Rattle.counters.specs.CounterLaws.{kept-counters, counters-kept}
 use Rattle.counters.specs.Passes.{RowFits, first_of, pass-end}
 

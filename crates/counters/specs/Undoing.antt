@@ -10,7 +10,7 @@ use Rattle.encoding.specs.ValueLaws.{unassigned-here, unassigned-elsewhere, leng
 use Rattle.encoding.specs.ArrayLaws.{part-cons, part-nil}
 use Rattle.units.specs.TrailWords.{cleared}
 use Rattle.units.specs.Stacks.{length-cleared}
-use Rattle.counters.specs.Counters.{Counters}
+use Rattle.counters.specs.declared.Counters.{Counters}
 use Rattle.counters.specs.Setting.{CountersFit, IsUnset, IsSet, StayKept, stay-fit}
 
 -- the entries from one place up to another are set as they say, and no two have one atom

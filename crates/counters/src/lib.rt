@@ -13,3 +13,14 @@ pub const WORDS: usize = 10;
 pub const PLACES: usize = 640;
 
 pub const ROWS: usize = 5120;
+
+// The rows of bits, the clauses' numbers, and the bits of those that ask.
+#[derive(Clone, Copy, Drop)]
+pub struct Counters {
+    // bit c % 64 of word 10 * w + c / 64: clause c holds word w
+    pub rows: [u64; ROWS],
+    // the number of clause c
+    pub counts: [u32; PLACES],
+    // bit c % 64 of word c / 64: clause c asks
+    pub asking: [u64; WORDS],
+}

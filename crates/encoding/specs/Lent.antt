@@ -5,6 +5,8 @@ use Rattle.std.proofs.Common.{Bor, MutBor}
 use denote.Triple.Both.{Both}
 use Rattle.encoding.specs.Encoding.{Arrays, arrays}
 use Rattle.encoding.specs.Values.{Values}
+use Rattle.encoding.specs.declared.ClauseStore.{ClauseStore}
+use Rattle.encoding.specs.declared.AtomTable.{AtomTable}
 
 -- an array as a `requires` names it, and at both moments, as an `ensures` does
 abbrev pub Array : Type 0
@@ -31,33 +33,13 @@ Leaves R x = R x.entry x.exit
 abbrev pub Becomes : {A : Type 0} → (A → A) → Both A A → Type 0
 Becomes f x = x.exit ≡ f x.entry
 
--- the clause store: where each clause starts, the words of all their literals, and of each logged clause how many negated heads it
--- has, repeats dropped, and its rule's number
-pub record ClauseStore : Type 0 where
-  pub starts : List ℕ
-  pub literals : List ℕ
-  pub heads : List ℕ
-  pub numbers : List ℕ
-
+-- the clause store
 abbrev pub clause_store : List ℕ → List ℕ → List ℕ → List ℕ → ClauseStore
 clause_store starts literals heads numbers = record { starts = starts; literals = literals; heads = heads; numbers = numbers }
 
--- the atom table: the code of each position's atom, and the position, from 1, of each code
-pub record AtomTable : Type 0 where
-  pub codes : List ℕ
-  pub index : List ℕ
-
+-- the atom table
 abbrev pub atom_table : List ℕ → List ℕ → AtomTable
 atom_table codes index = record { codes = codes; index = index }
-
--- the trail: the value of each position's atom, and of each entry its literal's word and why it was set
-pub record TrailArrays : Type 0 where
-  pub values : Values
-  pub words : List ℕ
-  pub marks : List ℕ
-
-abbrev pub trail_arrays : Values → List ℕ → List ℕ → TrailArrays
-trail_arrays values words marks = record { values = values; words = words; marks = marks }
 
 -- ── lent ──
 
@@ -73,11 +55,4 @@ lent_arrays arities rules starts literals table index =
     record {
       entry = arrays arities.entry.now rules.entry.now starts.entry.now literals.entry.now table.entry.now index.entry.now;
       exit = arrays arities.exit.now rules.exit.now starts.exit.now literals.exit.now table.exit.now index.exit.now;
-    }
-
-abbrev pub lent_trail : LentValues → Lent → Lent → Both TrailArrays TrailArrays
-lent_trail values trail marks =
-    record {
-      entry = trail_arrays values.entry.now trail.entry.now marks.entry.now;
-      exit = trail_arrays values.exit.now trail.exit.now marks.exit.now;
     }

@@ -1,8 +1,11 @@
 // How a problem and a search stand in arrays: what several crates read and write alike.
 #![tactic(auto)]
 
+pub mod atoms; // atoms.rt: atoms by their codes
+mod clauses; // clauses.rt: the words of a clause
 pub mod slots; // slots.rt: the code of a literal's atom, and the terms of slots
 pub mod values; // values.rt: the values of literals
+pub mod words; // words.rt: a signed number as a word
 
 ghost use Rattle.std.specs.Prelude.{◌≡◌, ◌<◌};
 
@@ -70,6 +73,24 @@ pub struct Sizes {
     pub clauses: usize,
     pub atoms: usize,
     pub literals: usize,
+}
+
+// The clauses: where each starts, the words of all their literals, and of each logged one how many negated heads it has, repeats dropped, and
+// its rule's number.
+#[derive(Clone, Copy, Drop)]
+pub struct ClauseStore {
+    pub starts: [u16; STARTS],
+    pub literals: [u16; LITERALS],
+    pub heads: [u8; LOGGED],
+    pub numbers: [u8; LOGGED],
+}
+
+// The atoms: the code of each position's atom, and the position, from 1, of each code. It takes 1 MB, so it is built where it stays: a literal
+// of zeros is filled in place, and no function gives one back.
+#[derive(Clone, Copy, Drop)]
+pub struct AtomTable {
+    pub codes: [u32; ATOMS],
+    pub index: [u16; CODES],
 }
 
 // A word, or a byte, as a wider number; through a call the proof knows its bound.

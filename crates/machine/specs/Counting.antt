@@ -3,7 +3,7 @@ use Rattle.std.specs.Prelude.{ℕ, zero, suc, ◌+◌, ◌-◌, ◌*◌, ◌/◌
 use Rattle.std.proofs.Common.{sym, ◌∙◌, subst, arith, get_or-set_other}
 use Rattle.std.proofs.Math.Path.{ap}
 use Rattle.std.proofs.Math.Option.{Option, none, some}
-use denote.Triple.Both.{Both}
+use Rattle.std.proofs.Common.{Continue, Break}
 use Rattle.std.proofs.Math.Dec.{eqb}
 use Rattle.std.proofs.Math.ListN.{length, get_or}
 use Rattle.std.proofs.lemmas.List.Edits.{sets}
@@ -11,14 +11,14 @@ use Rattle.definitions.specs.Lists.{◌∈◌, added}
 use Rattle.definitions.specs.Words.{plain, Problem}
 use Rattle.definitions.specs.Instances.{task_of}
 use Rattle.definitions.specs.Search.{Trail, State, next_goal, backtrack}
-use Rattle.definitions.specs.declared.Verdict.{Verdict}
 use Rattle.definitions.specs.declared.Verdict.TheVariants.{Full}
 use Rattle.theory.specs.Tests.{by-test, by-option, apart, none≢some, some-injective}
 use Rattle.theory.specs.ListLaws.{at_split, in-along}
 use Rattle.encoding.specs.Encoding.{literal_word}
 use Rattle.encoding.specs.HoldLaws.{its-goals}
 use Rattle.encoding.specs.declared.Sizes.{Sizes}
-use Rattle.encoding.specs.Lent.{LentValues, ClauseStore, TrailArrays}
+use Rattle.encoding.specs.declared.ClauseStore.{ClauseStore}
+use Rattle.units.specs.TrailArrays.{TrailArrays}
 use Rattle.encoding.specs.Values.{Values}
 use Rattle.encoding.specs.ArrayLaws.{get_d-rising}
 use Rattle.units.specs.Units.{clause_at, ClausesFit}
@@ -32,19 +32,19 @@ use Rattle.rules.specs.Rules.{code_under, rule_variables}
 use Rattle.rules.specs.Fillings.{filling_of}
 use Rattle.clause_log.specs.StoreLaws.{clause-kept, take-sets-le}
 use Rattle.clause_log.specs.Logging.{Log, head_words, word_under, taken_slot, enters_slot, stored, put_clause, too_many, log_taken, log_under}
-use Rattle.counters.specs.Counters.{Counters, counters_of}
+use Rattle.counters.specs.Counters.{counters_of}
+use Rattle.counters.specs.declared.Counters.{Counters}
 use Rattle.counters.specs.CounterLaws.{counters-same}
 use Rattle.counters.specs.Setting.{StayKept, CountersFit, counters-fit, IsUnset}
 use Rattle.counters.specs.Undoing.{Undoable, undone-open}
 use Rattle.counters.specs.TrailCounts.{literal-unset, entries-undoable}
-use Rattle.machine.specs.Machine.{Machine, log_in, Stands, Running, act_of}
+use Rattle.machine.specs.Machine.{Next, ended_with, log_in, Stands, Running, act_of}
+use Rattle.machine.specs.declared.Machine.{Machine}
 use Rattle.machine.specs.StandsLaws.{trail-consistent, trail-decided, unit-unset, goal-unset, goal-none, goal-some, back_none}
 use Rattle.machine.specs.StepNeeds.{units-fit, unit-literal, flip-fits}
 use Rattle.machine.specs.MachineSteps.{Stepped, stepped, one_set, one_decided, one_conflict, one_logged, flip_at, conflict_step, unit_step, decide_step, goal_step, instance_step, run_after}
 use Rattle.machine.specs.declared.Run.{Run}
 use Rattle.machine.specs.declared.Ended.{Ended}
-use Rattle.machine.specs.declared.Next.{Next}
-use Rattle.machine.specs.declared.Next.TheVariants.{More, Done}
 
 -- the counters of the machine's clauses and values
 abbrev pub counters_in : Machine → Run → Counters
@@ -53,16 +53,9 @@ counters_in m run = counters_of m.trail.values (λ c. clause_at m.store.starts m
 abbrev pub CountsKept : Machine → Run → Counters → Type 0
 CountsKept m run k = k ≡ counters_in m run
 
--- so they are after a step, and at the end of a run
-abbrev pub NextKept : Next → Both Machine Machine → Both Counters Counters → Type 0
-NextKept r m k = CountsKept m.exit (run_after r) k.exit
-
-abbrev pub EndKept : Ended → Both Machine Machine → Both Counters Counters → Type 0
-EndKept r m k = CountsKept m.exit r.run k.exit
-
 -- a function that changes values keeps the counters of whatever clauses they were those of, as far as the words go that so many clauses take
-abbrev pub StillKept : ℕ → LentValues → Both Counters Counters → Type 0
-StillKept clauses values k = StayKept ((clauses + 63) / 64) values.entry.now k.entry values.exit.now k.exit
+abbrev pub StillKept : ℕ → Values → Counters → Values → Counters → Type 0
+StillKept clauses values k values' k' = StayKept ((clauses + 63) / 64) values k values' k'
 
 -- ── what the steps ask of them ──
 
@@ -174,8 +167,8 @@ module _ (rules filling : List ℕ) (r given : ℕ) (l k : Log) (fit : ClausesFi
 -- so the counters are still theirs, and there is one clause more unless there was no room
 pub record LoggedKept (m : Machine) (run : Run) (k : Counters) (next : Next) (l : Log) : Type 0 where
   pub kept : k ≡ counters_of m.trail.values (λ c. clause_at l.store.starts l.store.literals c) run.clauses
-  pub more : (after : Run) → next ≡ More after → after.clauses ≡ run.clauses + 1
-  pub full : (v : Verdict) (after : Run) → next ≡ Done v after → after.clauses ≡ run.clauses
+  pub more : (after : Run) → next ≡ Continue after → after.clauses ≡ run.clauses + 1
+  pub full : (last : Ended) → next ≡ Break last → last.run.clauses ≡ run.clauses
 
 pub instance-kept : (rules : List ℕ) (sizes : Sizes) (r f : ℕ) (m : Machine) (run : Run) {next : Next} {l : Log}
     → stepped next l ≡ instance_step m.trail.values rules sizes r f (log_in m run) run
@@ -186,19 +179,19 @@ instance-kept rules sizes r f m run {next} {l} e fit {k} kept =
     by-option (log_under m.trail.values rules filling r sizes.clauses (log_in m run))
     (λ q.
     let same : l ≡ log_in m run = ap (λ (x : Stepped Log). x.arrays) e ∙ rw (q, instance_step) in
-    let its : next ≡ Done Full run = ap (λ (x : Stepped Log). x.next) e ∙ rw (q, instance_step) in
+    let its : next ≡ Break (ended_with Full run) = ap (λ (x : Stepped Log). x.next) e ∙ rw (q, instance_step) in
     record {
       kept = rw same kept;
       more = λ after z. apart (cc);
-      full = λ v after z. let y : after ≡ run = cc in ap (λ (x : Run). x.clauses) y;
+      full = λ last z. let y : last ≡ ended_with Full run = cc in ap (λ (x : Ended). x.run.clauses) y;
     })
     (λ g q.
     let same : l ≡ g = ap (λ (x : Stepped Log). x.arrays) e ∙ rw (q, instance_step) in
-    let its : next ≡ More (one_logged g.atoms run) = ap (λ (x : Stepped Log). x.next) e ∙ rw (q, instance_step) in
+    let its : next ≡ Continue (one_logged g.atoms run) = ap (λ (x : Stepped Log). x.next) e ∙ rw (q, instance_step) in
     record {
       kept = rw same (kept ∙ counters-same m.trail.values _ _ run.clauses (omega (arith, fit.limit)) (λ c b. sym (log-keeps rules filling r sizes.clauses (log_in m run) g fit m.trail.values q c b)));
       more = λ after z. let y : after ≡ one_logged g.atoms run = cc in ap (λ (x : Run). x.clauses) y;
-      full = λ v after z. apart (cc);
+      full = λ last z. apart (cc);
     })
   where
     filling : List ℕ

@@ -33,15 +33,16 @@ use Rattle.encoding.specs.Values.{Values, true_word}
 use Rattle.encoding.specs.declared.Sizes.{Sizes}
 use Rattle.units.specs.Units.{clause_at}
 use Rattle.units.specs.FalseWords.{words_left, not-false-words}
-use Rattle.counters.specs.Counters.{count_not_false, count_true, read_whole, told, number_asks, number, Counters, counters_of}
+use Rattle.counters.specs.Counters.{count_not_false, count_true, read_whole, told, number_asks, number, counters_of}
+use Rattle.counters.specs.declared.Counters.{Counters}
 use Rattle.counters.specs.CounterLaws.{number-here, ask-inside}
-use Rattle.machine.specs.Machine.{Machine, StandsWith, NextStands, Loaded}
+use Rattle.machine.specs.Machine.{Next, StandsWith, NextStands, Loaded}
+use Rattle.machine.specs.declared.Machine.{Machine}
 use Rattle.machine.specs.MachineSteps.{machine_run, run_after}
 use Rattle.machine.specs.Counting.{counters_in, CountsKept}
 use Rattle.machine.specs.Loading.{start_run}
 use Rattle.machine.specs.RunStands.{state_after, loaded-run}
 use Rattle.machine.specs.declared.Run.{Run}
-use Rattle.machine.specs.declared.Next.{Next}
 
 -- ── a clause's words say what its literals say ──
 

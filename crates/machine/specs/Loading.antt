@@ -15,13 +15,12 @@ use Rattle.encoding.specs.Slots.{rule_words}
 use Rattle.encoding.specs.Values.{no_values}
 use Rattle.encoding.specs.Encoding.{atom_code, clause_words, starts_from, Arrays, arrays, hold, sizes_of, empty_index}
 use Rattle.encoding.specs.declared.Sizes.{Sizes}
-use Rattle.machine.specs.Machine.{Machine, machine, Stands, RulesStand, Running, EndStands, EndsRun, Lengths, Loaded}
+use Rattle.machine.specs.Machine.{machine, Stands, RulesStand, Running, EndStands, EndsRun, Lengths, Loaded}
+use Rattle.machine.specs.declared.Machine.{Machine}
 use Rattle.machine.specs.MachineStart.{rules-stand, machine-start}
 use Rattle.machine.specs.SearchStands.{search-stands}
 use Rattle.agenda.specs.Agenda.{Users}
-use Rattle.machine.specs.FollowingLaws.{none_awake}
-use Rattle.machine.specs.Upkeep.{upkeep_of}
-use Rattle.machine.specs.Stepping.{Stepping, start-follow}
+use Rattle.machine.specs.Stepping.{Stepping, start_upkeep, start-follow}
 use Rattle.machine.specs.declared.Run.{Run}
 use Rattle.machine.specs.declared.Ended.{Ended}
 
@@ -70,7 +69,7 @@ module _ (p : Problem) (sizes : Sizes) (budget : ℕ) (rules : List ℕ) (m : Ma
 
   -- a step can be made, with masks that hold nothing while all rules sleep
   pub loaded-stepping : budget < 2 ^ 32 → (users : List ℕ) → Users rules sizes.rules users
-      → Stepping budget rules users sizes m (start_run sizes) (upkeep_of (replicate 104544 0) (replicate 3072 0) (replicate 3072 0) (replicate 1 0) none_awake (replicate 128 0))
+      → Stepping budget rules users sizes m (start_run sizes) start_upkeep
   loaded-stepping small users its =
       record {
         running = loaded-running small;

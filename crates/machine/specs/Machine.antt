@@ -1,6 +1,6 @@
 -- The machine: the search over arrays, and how it stands for a state of the definitions' search. Assumes nothing.
 use Rattle.std.specs.Prelude.{ℕ, suc, ◌*◌, ◌<◌, ◌^◌, ◌≡◌, List, length, take}
-use denote.Triple.Both.{Both}
+use Rattle.std.proofs.Common.{ControlFlow, Continue, Break}
 use Rattle.encoding.specs.Lengths.{literal_array, rule_array, start_array}
 use Rattle.definitions.specs.Lists.{joined}
 use Rattle.definitions.specs.Words.{Problem}
@@ -13,7 +13,8 @@ use Rattle.theory.specs.Invariants.{Sound}
 use Rattle.theory.specs.Ends.{measure}
 use Rattle.encoding.specs.Encoding.{Arrays, empty_index, sizes_of, hold}
 use Rattle.encoding.specs.declared.Sizes.{Sizes}
-use Rattle.encoding.specs.Lent.{Array, Lent, ValueArray, LentValues, ClauseStore, clause_store, AtomTable, atom_table, TrailArrays, trail_arrays}
+use Rattle.encoding.specs.Lent.{clause_store, atom_table}
+use Rattle.units.specs.TrailArrays.{trail_arrays}
 use Rattle.encoding.specs.Slots.{rule_words}
 use Rattle.encoding.specs.Values.{Values, no_values}
 use Rattle.units.specs.TrailWords.{TrailStands}
@@ -24,36 +25,29 @@ use Rattle.walk.specs.Walk.{walk_from}
 use Rattle.walk.specs.declared.Found.{Found}
 use Rattle.clause_log.specs.Logging.{Log}
 use Rattle.clause_log.specs.LogHolds.{LogHolds}
+use Rattle.encoding.specs.declared.ClauseStore.{ClauseStore}
+use Rattle.encoding.specs.declared.AtomTable.{AtomTable}
+use Rattle.machine.specs.declared.Machine.{Machine}
 use Rattle.machine.specs.declared.Run.{Run}
 use Rattle.machine.specs.declared.Ended.{Ended}
-use Rattle.machine.specs.declared.Next.{Next}
-use Rattle.machine.specs.declared.Next.TheVariants.{More, Done}
-
--- the arrays that the search changes
-pub record Machine : Type 0 where
-  pub store : ClauseStore
-  pub table : AtomTable
-  pub trail : TrailArrays
 
 abbrev pub machine : List ℕ → List ℕ → List ℕ → List ℕ → List ℕ → List ℕ → Values → List ℕ → List ℕ → Machine
 machine starts literals heads numbers table index values trail marks =
     record { store = clause_store starts literals heads numbers; table = atom_table table index; trail = trail_arrays values trail marks }
 
--- lent, as a `requires` names its arrays, and at both moments
-abbrev pub machine_now : Array → Array → Array → Array → Array → Array → ValueArray → Array → Array → Machine
-machine_now starts literals heads numbers table index values trail marks =
-    machine starts.now literals.now heads.now numbers.now table.now index.now values.now trail.now marks.now
+-- what a step leads to
+abbrev pub Next : Type 0
+Next = ControlFlow Ended Run
 
-abbrev pub lent_machine : Lent → Lent → Lent → Lent → Lent → Lent → LentValues → Lent → Lent → Both Machine Machine
-lent_machine starts literals heads numbers table index values trail marks =
-    record {
-      entry = machine_now starts.entry literals.entry heads.entry numbers.entry table.entry index.entry values.entry trail.entry marks.entry;
-      exit = machine_now starts.exit literals.exit heads.exit numbers.exit table.exit index.exit values.exit trail.exit marks.exit;
-    }
+abbrev pub ended_with : Verdict → Run → Ended
+ended_with v run = record { verdict = v; run = run }
 
 -- what logging changes of it, with its counts
+abbrev pub log_as : ClauseStore → AtomTable → Run → Log
+log_as store table run = record { atoms = run.atoms; clauses = run.clauses; store = store; table = table }
+
 abbrev pub log_in : Machine → Run → Log
-log_in m run = record { atoms = run.atoms; clauses = run.clauses; store = m.store; table = m.table }
+log_in m run = log_as m.store m.table run
 
 -- what step A and step B find
 abbrev pub act_of : Sizes → Machine → Run → UnitAct
@@ -89,8 +83,8 @@ pub record RulesStand (p : Problem) (rules : List ℕ) : Type 0 where
 
 -- a step of the machine stands for a step of the search
 abbrev pub NextStands : Problem → ℕ → Outcome → Next → Machine → Type 0
-NextStands p budget (more s) r m = (run : Run) × (r ≡ More run) × Stands p budget s m run
-NextStands p budget (done v s) r m = (run : Run) × (r ≡ Done v run) × StandsAtEnd p budget v s m run
+NextStands p budget (more s) r m = (run : Run) × (r ≡ Continue run) × Stands p budget s m run
+NextStands p budget (done v s) r m = (run : Run) × (r ≡ Break (ended_with v run)) × StandsAtEnd p budget v s m run
 
 -- there are a problem and a state that the machine stands for, so that a step can be made
 pub record Running (budget : ℕ) (rules : List ℕ) (sizes : Sizes) (m : Machine) (run : Run) : Type 0 where
@@ -111,10 +105,6 @@ abbrev pub EndsRun : ℕ → List ℕ → Sizes → Machine → Run → Ended �
 EndsRun budget rules sizes m start r last =
     (p : Problem) (s : State) → RulesStand p rules → sizes ≡ sizes_of p → Stands p budget s m start
     → EndStands p budget (run (task_of p) budget (suc (measure budget s)) s) r last
-
--- what a function that ends a run answers and leaves
-abbrev pub Ends : (Machine → Run → Ended → Machine → Type 0) → Run → Ended → Both Machine Machine → Type 0
-Ends ends start r m = ends m.entry start r m.exit
 
 -- the arrays' lengths
 pub record Lengths (rules : List ℕ) (m : Machine) : Type 0 where
@@ -142,5 +132,5 @@ pub record Loaded (p : Problem) (sizes : Sizes) (rules : List ℕ) (m : Machine)
   pub unset : m.trail.values ≡ no_values
 
 -- for every problem that stood in the arrays, they come to what its search does
-abbrev pub EndsSearch : ℕ → List ℕ → Sizes → Ended → Both Machine Machine → Type 0
-EndsSearch budget rules sizes r m = (p : Problem) → Loaded p sizes rules m.entry → EndStands p budget (search p budget) r m.exit
+abbrev pub EndsSearch : ℕ → List ℕ → Sizes → Machine → Ended → Machine → Type 0
+EndsSearch budget rules sizes m r last = (p : Problem) → Loaded p sizes rules m → EndStands p budget (search p budget) r last

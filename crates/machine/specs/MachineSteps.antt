@@ -1,20 +1,19 @@
 -- The steps of the machine, in the code's order of tests, and what a run of them comes to. Assumes nothing.
-use Rattle.std.specs.Prelude.{ℕ, zero, suc, ◌+◌, ◌-◌, ◌*◌, ◌≡◌, true, false, List, eqb, leb, get_or, set, take, drop}
+use Rattle.std.specs.Prelude.{ℕ, zero, suc, ◌+◌, ◌*◌, true, false, List, eqb, leb, get_or}
 use Rattle.std.proofs.Math.Option.{none, some}
-use denote.Triple.Both.{Both}
+use Rattle.std.proofs.Common.{Continue, Break}
 use Rattle.definitions.specs.declared.Verdict.TheVariants.{Unsat, Unknown, Spent, Full}
 use Rattle.definitions.specs.Search.{decided, flipped, forced}
-use Rattle.encoding.specs.Values.{Values, assigned}
-use Rattle.units.specs.TrailWords.{mark_of, latest_decision, cleared, first_unset}
+use Rattle.encoding.specs.Values.{Values}
+use Rattle.units.specs.TrailWords.{mark_of, latest_decision, first_unset}
 use Rattle.clause_log.specs.Logging.{Log, log_under}
 use Rattle.encoding.specs.declared.Sizes.{Sizes}
-use Rattle.encoding.specs.Lent.{TrailArrays, trail_arrays}
-use Rattle.machine.specs.Machine.{Machine, log_in, act_of, walk_of}
+use Rattle.units.specs.TrailArrays.{TrailArrays, set_at, undo_from}
+use Rattle.machine.specs.Machine.{Next, ended_with, log_in, act_of, walk_of}
+use Rattle.machine.specs.declared.Machine.{Machine}
 use Rattle.rules.specs.Rules.{rule_variables}
 use Rattle.rules.specs.Fillings.{filling_of}
 use Rattle.machine.specs.declared.Run.{Run}
-use Rattle.machine.specs.declared.Next.{Next}
-use Rattle.machine.specs.declared.Next.TheVariants.{More, Done}
 use Rattle.units.specs.declared.UnitAct.TheVariants.{Conflict, Force, Nothing}
 use Rattle.walk.specs.declared.Found.TheVariants.{Instance, Nowhere}
 
@@ -25,14 +24,6 @@ pub record Stepped (A : Type 0) : Type 0 where
 
 abbrev pub stepped : {A : Type 0} → Next → A → Stepped A
 stepped r a = record { next = r; arrays = a }
-
--- a literal is set at a place of the trail
-unfoldable pub set_at : ℕ → ℕ → ℕ → TrailArrays → TrailArrays
-set_at at w why t = trail_arrays (assigned t.values w) (set t.words at w) (set t.marks at why)
-
--- what was set from a place on is unset
-unfoldable pub undo_from : ℕ → ℕ → TrailArrays → TrailArrays
-undo_from at n t = trail_arrays (cleared t.values (take (n - at) (drop at t.words))) t.words t.marks
 
 -- the counts that a step changes
 unfoldable pub one_set : Run → Run
@@ -51,28 +42,28 @@ one_logged atoms run = record { atoms = atoms; clauses = run.clauses + 1; set = 
 
 -- Conflict: the latest decision that stands at true is set to false
 unfoldable pub flip_at : ℕ → TrailArrays → Run → Stepped TrailArrays
-flip_at zero t run = stepped (Done Unsat (one_conflict run.set run)) t
-flip_at (suc at) t run = stepped (More (one_conflict (suc at) run)) (set_at at (get_or t.words at 0 + 1) (mark_of flipped) (undo_from at run.set t))
+flip_at zero t run = stepped (Break (ended_with Unsat (one_conflict run.set run))) t
+flip_at (suc at) t run = stepped (Continue (one_conflict (suc at) run)) (set_at at (get_or t.words at 0 + 1) (mark_of flipped) (undo_from at run.set t))
 
 unfoldable pub conflict_step : TrailArrays → Run → Stepped TrailArrays
 conflict_step t run = flip_at (latest_decision t.marks run.set) t run
 
 -- A: a unit is set
 unfoldable pub unit_step : ℕ → TrailArrays → Run → Stepped TrailArrays
-unit_step w t run = stepped (More (one_set run)) (set_at run.set w (mark_of forced) t)
+unit_step w t run = stepped (Continue (one_set run)) (set_at run.set w (mark_of forced) t)
 
 -- C: the first unset goal atom is decided
 unfoldable pub decide_step : ℕ → ℕ → TrailArrays → Run → Stepped TrailArrays
 decide_step budget a t run =
     elim (leb budget run.decisions) [
-      | true ↦ stepped (Done Spent run) t
-      | false ↦ stepped (More (one_decided run)) (set_at run.set (2 * a) (mark_of decided) t)
+      | true ↦ stepped (Break (ended_with Spent run)) t
+      | false ↦ stepped (Continue (one_decided run)) (set_at run.set (2 * a) (mark_of decided) t)
     ]
 
 unfoldable pub goal_step : ℕ → ℕ → TrailArrays → Run → Stepped TrailArrays
 goal_step goals budget t run =
     elim (eqb (first_unset t.values 0 goals) goals) [
-      | true ↦ stepped (Done Unknown run) t
+      | true ↦ stepped (Break (ended_with Unknown run)) t
       | false ↦ decide_step budget (first_unset t.values 0 goals) t run
     ]
 
@@ -82,8 +73,8 @@ goal_step goals budget t run =
 unfoldable pub instance_step : Values → List ℕ → Sizes → ℕ → ℕ → Log → Run → Stepped Log
 instance_step values rules sizes r f l run =
     elim (log_under values rules (filling_of sizes.constants (rule_variables rules r) f) r sizes.clauses l) [
-      | none ↦ stepped (Done Full run) l
-      | some k ↦ stepped (More (one_logged k.atoms run)) k
+      | none ↦ stepped (Break (ended_with Full run)) l
+      | some k ↦ stepped (Continue (one_logged k.atoms run)) k
     ]
 
 -- ── on the machine ──
@@ -114,21 +105,14 @@ machine_step rules sizes budget m run =
 
 -- so many steps, or fewer if one of them ends the search
 unfoldable pub machine_run : List ℕ → Sizes → ℕ → ℕ → Machine → Run → Stepped Machine
-machine_run rules sizes budget zero m run = stepped (More run) m
+machine_run rules sizes budget zero m run = stepped (Continue run) m
 machine_run rules sizes budget (suc n) m run =
     elim (machine_step rules sizes budget m run).next [
-      | More next ↦ machine_run rules sizes budget n (machine_step rules sizes budget m run).arrays next
-      | Done v last ↦ machine_step rules sizes budget m run
+      | Continue next ↦ machine_run rules sizes budget n (machine_step rules sizes budget m run).arrays next
+      | Break last ↦ machine_step rules sizes budget m run
     ]
 
--- ── what a function that makes such a step answers and leaves in the arrays that it is lent ──
-
-abbrev pub TrailStep : (TrailArrays → Run → Stepped TrailArrays) → Run → Next → Both TrailArrays TrailArrays → Type 0
-TrailStep step run r t = stepped r t.exit ≡ step t.entry run
-
+-- the run after a step
 abbrev pub run_after : Next → Run
-run_after (More run) = run
-run_after (Done v run) = run
-
-abbrev pub LogStep : (Log → Run → Stepped Log) → Run → Next → Both (ℕ → ℕ → Log) (ℕ → ℕ → Log) → Type 0
-LogStep step run r l = stepped r (l.exit (run_after r).atoms (run_after r).clauses) ≡ step (l.entry run.atoms run.clauses) run
+run_after (Continue run) = run
+run_after (Break last) = last.run

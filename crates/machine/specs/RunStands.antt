@@ -14,12 +14,12 @@ use Rattle.encoding.specs.Standing.{GoalWords}
 use Rattle.encoding.specs.WordTruths.{goal-words}
 use Rattle.encoding.specs.StateTable.{states_in, state_table, table-stands}
 use Rattle.encoding.specs.declared.Sizes.{Sizes}
-use Rattle.machine.specs.Machine.{Machine, StandsWith, Stands, RulesStand, NextStands, Loaded}
+use Rattle.machine.specs.Machine.{Next, StandsWith, Stands, RulesStand, NextStands, Loaded}
+use Rattle.machine.specs.declared.Machine.{Machine}
 use Rattle.machine.specs.MachineSteps.{Stepped, machine_step, machine_run}
 use Rattle.machine.specs.StepStands.{step-stands}
 use Rattle.machine.specs.Loading.{start_run, loaded-rules, loaded-stands}
 use Rattle.machine.specs.declared.Run.{Run}
-use Rattle.machine.specs.declared.Next.{Next}
 
 -- the state of the search after so many steps, and the words of the machine
 abbrev pub state_after : Problem → ℕ → ℕ → State

@@ -9,7 +9,8 @@ use Rattle.definitions.specs.declared.Verdict.{Verdict}
 use Rattle.theory.specs.Limits.{Searchable}
 use Rattle.theory.specs.Steps.{Falls, kind}
 use Rattle.theory.specs.Ends.{Fits, start_fits, measure, step_falls, start-measure, run-enough}
-use Rattle.machine.specs.Machine.{Machine, EndStands}
+use Rattle.machine.specs.Machine.{EndStands}
+use Rattle.machine.specs.declared.Machine.{Machine}
 use Rattle.machine.specs.declared.Ended.{Ended}
 
 module _ (k : Task) (budget : ℕ) (s : State) where

@@ -28,7 +28,8 @@ use Rattle.walk.specs.Walk.{walk_from}
 use Rattle.walk.specs.WalkStands.{WalkAs}
 use Rattle.walk.proofs.WalkStands.{walk-stands}
 use Rattle.clause_log.specs.LogHolds.{holds-index}
-use Rattle.machine.specs.Machine.{Machine, log_in, Stands, RulesStand}
+use Rattle.machine.specs.Machine.{log_in, Stands, RulesStand}
+use Rattle.machine.specs.declared.Machine.{Machine}
 use Rattle.encoding.specs.WordTruths.{true-word}
 use Rattle.units.specs.BacktrackLaws.{DecidedTrue, backtrack-none-zero, Backtracked, backtrack-stands}
 use Rattle.units.specs.FirstUnset.{first-unset-some, first-unset-none}

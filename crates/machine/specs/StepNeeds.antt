@@ -27,7 +27,8 @@ use Rattle.units.specs.TrailLaws.{words_small}
 use Rattle.walk.specs.Walk.{fires_at, first_from, walk_from}
 use Rattle.rules.specs.Firing.{fires_under}
 use Rattle.clause_log.specs.Logging.{LogFits}
-use Rattle.machine.specs.Machine.{Machine, log_in, act_of, walk_of, Stands, Running}
+use Rattle.machine.specs.Machine.{log_in, act_of, walk_of, Stands, Running}
+use Rattle.machine.specs.declared.Machine.{Machine}
 use Rattle.machine.specs.StandsLaws.{room_for, act-as, unit-unset, back_none, back_some, goal-unset, goal-none, goal-some}
 use Rattle.machine.specs.declared.Run.{Run}
 use Rattle.units.specs.declared.UnitAct.TheVariants.{Force, Nothing}

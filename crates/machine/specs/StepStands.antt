@@ -33,13 +33,15 @@ use Rattle.walk.specs.WalkStands.{WalkAs}
 use Rattle.clause_log.specs.Logging.{Log}
 use Rattle.clause_log.specs.LogHolds.{LogHolds}
 use Rattle.clause_log.specs.LogStands.{logged-full, logged-stands}
-use Rattle.machine.specs.Machine.{Machine, log_in, Stands, StandsAtEnd, RulesStand, NextStands}
-use Rattle.machine.specs.MachineSteps.{Stepped, stepped, set_at, undo_from, with_trail, with_log, on_trail, on_log, one_set, one_decided, one_conflict, one_logged, flip_at, conflict_step, unit_step, instance_step, decide_step, goal_step, machine_step}
+use Rattle.machine.specs.Machine.{ended_with, log_in, Stands, StandsAtEnd, RulesStand, NextStands}
+use Rattle.machine.specs.declared.Machine.{Machine}
+use Rattle.machine.specs.MachineSteps.{Stepped, stepped, with_trail, with_log, on_trail, on_log, one_set, one_decided, one_conflict, one_logged, flip_at, conflict_step, unit_step, instance_step, decide_step, goal_step, machine_step}
+use Rattle.units.specs.TrailArrays.{set_at, undo_from}
 use Rattle.machine.specs.StandsLaws.{true-words, true-known, room_for, act-as, unit-unset, back_none, back_some, walk-as, goal-unset, goal-none, goal-some}
 use Rattle.units.specs.BacktrackLaws.{zero-backtrack-none}
 use Rattle.rules.specs.RuleStands.{rule-variables}
 use Rattle.machine.specs.declared.Run.{Run}
-use Rattle.machine.specs.declared.Next.TheVariants.{More, Done}
+use Rattle.std.proofs.Common.{Continue, Break}
 use Rattle.walk.specs.declared.Found.{Found}
 use Rattle.walk.specs.declared.Found.TheVariants.{Instance, Nowhere}
 
@@ -50,12 +52,12 @@ by_number zero z f = z refl
 by_number (suc i) z f = f i refl
 
 module _ (p : Problem) (budget : ℕ) where
-  goes_on : {s : State} {x : Stepped Machine} {m : Machine} {run : Run} → x ≡ stepped (More run) m → Stands p budget s m run
+  goes_on : {s : State} {x : Stepped Machine} {m : Machine} {run : Run} → x ≡ stepped (Continue run) m → Stands p budget s m run
       → NextStands p budget (more s) x.next x.arrays
   goes_on {s} {run = run} e h =
       (run, ap (λ (y : Stepped Machine). y.next) e, subst (λ (y : Stepped Machine). Stands p budget s y.arrays run) (sym e) h)
 
-  ends : (v : Verdict) {s : State} {x : Stepped Machine} {m : Machine} {run : Run} → x ≡ stepped (Done v run) m → StandsAtEnd p budget v s m run
+  ends : (v : Verdict) {s : State} {x : Stepped Machine} {m : Machine} {run : Run} → x ≡ stepped (Break (ended_with v run)) m → StandsAtEnd p budget v s m run
       → NextStands p budget (done v s) x.next x.arrays
   ends v {s} {run = run} e h =
       (run, ap (λ (y : Stepped Machine). y.next) e, subst (λ (y : Stepped Machine). StandsAtEnd p budget v s y.arrays run) (sym e) h)
@@ -107,7 +109,7 @@ module _ (p : Problem) (budget : ℕ) (rules : List ℕ) (rules_stand : RulesSta
       cases Nowhere w = refl
       cases (Instance r f) (x, its, below, first) = none≢some (sym e ∙ first)
 
-  goal-rests : next_goal (task_of p) s ≡ none → goal_step goals budget m.trail run ≡ stepped (Done Unknown run) m.trail
+  goal-rests : next_goal (task_of p) s ≡ none → goal_step goals budget m.trail run ≡ stepped (Break (ended_with Unknown run)) m.trail
   unfolding goal_step
   goal-rests e = cc (eq-eqb (first_unset m.trail.values 0 goals) goals (goal-none p budget s m run h e))
 
@@ -161,7 +163,7 @@ module _ (p : Problem) (budget : ℕ) (rules : List ℕ) (rules_stand : RulesSta
   -- ── a conflict ──
 
   undone-as : next_act (task_of p) s ≡ some conflict → (at : ℕ) → latest_decision m.trail.marks run.set ≡ suc at
-      → result ≡ stepped (More (one_conflict (suc at) run)) (with_trail (set_at at (get_or m.trail.words at 0 + 1) (mark_of flipped) (undo_from at run.set m.trail)) m)
+      → result ≡ stepped (Continue (one_conflict (suc at) run)) (with_trail (set_at at (get_or m.trail.words at 0 + 1) (mark_of flipped) (undo_from at run.set m.trail)) m)
   unfolding on_trail conflict_step flip_at
   undone-as e at q = on-conflict e ∙ cc
 
@@ -184,10 +186,10 @@ module _ (p : Problem) (budget : ℕ) (rules : List ℕ) (rules_stand : RulesSta
         conflicts = omega (arith, h.conflicts);
       }
 
-  refuted-as : next_act (task_of p) s ≡ some conflict → backtrack s.trail ≡ none → result ≡ stepped (Done Unsat (one_conflict run.set run)) m
+  refuted-as : next_act (task_of p) s ≡ some conflict → backtrack s.trail ≡ none → result ≡ stepped (Break (ended_with Unsat (one_conflict run.set run))) m
   unfolding on_trail conflict_step flip_at
   refuted-as e b =
-      let none-stands : conflict_step m.trail run ≡ stepped (Done Unsat (one_conflict run.set run)) m.trail = cc (back_none p budget s m run h b) in
+      let none-stands : conflict_step m.trail run ≡ stepped (Break (ended_with Unsat (one_conflict run.set run))) m.trail = cc (back_none p budget s m run h b) in
       on-conflict e ∙ ap (on_trail m) none-stands
 
   refuted-stands : next_act (task_of p) s ≡ some conflict → backtrack s.trail ≡ none
@@ -250,20 +252,20 @@ module _ (p : Problem) (budget : ℕ) (rules : List ℕ) (rules_stand : RulesSta
         cases (Instance r f) q (x, its, below, first) =
             let same = some-injective (sym found ∙ first) in
             let (l, put, holds) = logged-stands p limits rules words s m.trail.values (log_in m run) h.log (true-words p budget s m run h) (true-known p budget s m run h) r x its f below first (rw same at room) in
-            let comes : instance_step m.trail.values rules (sizes_of p) r f (log_in m run) run ≡ stepped (More (one_logged l.atoms run)) l =
+            let comes : instance_step m.trail.values rules (sizes_of p) r f (log_in m run) run ≡ stepped (Continue (one_logged l.atoms run)) l =
             cc (put, rule-variables p limits rules words r x its) in
             goes_on p budget (on-instance r f no_act q ∙ ap (on_log m) comes) (logs-stands i l d (subst (λ j. LogHolds p (log_instance s (logged_of s.trail j)) l) (sym same) holds))
 
-    overflows-as : has_room s logged ≡ false → result ≡ stepped (Done Full run) m
+    overflows-as : has_room s logged ≡ false → result ≡ stepped (Break (ended_with Full run)) m
     unfolding instance_step on_log sizes_of
     overflows-as full = cases walk refl (walk-as p budget s m run h rules rules_stand)
       where
-        cases : (w : Found) → walk ≡ w → WalkAs p s w → result ≡ stepped (Done Full run) m
+        cases : (w : Found) → walk ≡ w → WalkAs p s w → result ≡ stepped (Break (ended_with Full run)) m
         cases Nowhere q e = none≢some (sym e ∙ found)
         cases (Instance r f) q (x, its, below, first) =
             let same = some-injective (sym found ∙ first) in
             let put = logged-full p limits rules words s m.trail.values (log_in m run) h.log (true-words p budget s m run h) (true-known p budget s m run h) r x its f below first (rw same at full) in
-            let comes : instance_step m.trail.values rules (sizes_of p) r f (log_in m run) run ≡ stepped (Done Full run) (log_in m run) =
+            let comes : instance_step m.trail.values rules (sizes_of p) r f (log_in m run) run ≡ stepped (Break (ended_with Full run)) (log_in m run) =
             cc (put, rule-variables p limits rules words r x its) in
             on-instance r f no_act q ∙ ap (on_log m) comes
 

@@ -19,7 +19,8 @@ use Rattle.encoding.specs.declared.Sizes.{Sizes}
 use Rattle.sheet.specs.LineHolds.{SheetRead}
 use Rattle.sheet.specs.declared.Read.{Read}
 use Rattle.clause_log.specs.StoreLaws.{sets-start-at}
-use Rattle.machine.specs.Machine.{Machine, machine, EndStands, Lengths, Loaded}
+use Rattle.machine.specs.Machine.{machine, EndStands, Lengths, Loaded}
+use Rattle.machine.specs.declared.Machine.{Machine}
 use Rattle.machine.specs.Loading.{held_machine, accepted-loaded}
 use Rattle.machine.specs.Finished.{AtEnd, at-end}
 use Rattle.machine.specs.declared.Ended.{Ended}

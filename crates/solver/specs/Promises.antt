@@ -69,10 +69,12 @@ use Rattle.encoding.specs.Standing.{Valued, GoalWords}
 use Rattle.encoding.specs.WordTruths.{value-test}
 use Rattle.encoding.specs.StateTable.{states_in, state_table, ValuesFit, table-words}
 use Rattle.encoding.specs.declared.Sizes.{Sizes}
-use Rattle.machine.specs.Machine.{Machine, Loaded}
+use Rattle.machine.specs.Machine.{Loaded}
+use Rattle.machine.specs.declared.Machine.{Machine}
 use Rattle.machine.specs.Loading.{accepted-arrays}
 use Rattle.machine.specs.RunStands.{values_after, run-words}
-use Rattle.counters.specs.Counters.{Counters, told}
+use Rattle.counters.specs.Counters.{told}
+use Rattle.counters.specs.declared.Counters.{Counters}
 use Rattle.machine.specs.CountsStand.{KeptAfter, counters_after, run-numbers}
 use Rattle.cnf_reader.specs.CnfArrays.{cnf_read, held_clauses}
 use Rattle.cnf_reader.specs.CnfArrayLaws.{cnf-held}

@@ -1,14 +1,14 @@
 -- The loops over the trail, turn by turn: what is left to do comes to what all of it came to. Assumes nothing.
-use Prim.Native.Nat.{ℕ, suc, ◌+◌, ◌-◌, ◌<◌, ◌≤◌}
-use mathlib.Core.Path.{◌≡◌, sym, ◌∙◌, ap}
-use mathlib.Core.List.{List}
-use native.Mathlib.Omega.{arith}
-use lib.ListN.{length, get_or, take, drop}
-use borrow.Author.Tests.{eq-eqb, ne_eqb}
+use Rattle.std.specs.Prelude.{ℕ, suc, ◌+◌, ◌-◌, ◌≤◌, ◌<◌, ◌≡◌, List, Option, MatchOption, length, get_or}
+use Rattle.std.proofs.Common.{sym, ◌∙◌, ap, arith, eq-eqb, ne_eqb, ltb, ltb-true, ltb-false, nat_lt}
+use Rattle.std.specs.Bool.{then_some}
 use Rattle.definitions.specs.Search.{decided}
-use Rattle.encoding.specs.ArrayLaws.{part-cons, part-nil}
+use Rattle.theory.specs.Tests.{by-test}
 use Rattle.encoding.specs.Values.{Values, unassigned}
+use Rattle.encoding.specs.ArrayLaws.{part-cons, part-nil}
 use Rattle.units.specs.TrailWords.{mark_of, latest_decision, cleared}
+use Rattle.units.specs.TrailArrays.{trail_arrays, undo_from}
+use Rattle.units.specs.declared.trail.Trail.{Trail}
 
 module _ (marks : List ℕ) {x : ℕ} where
   pub decision-hit : (i : ℕ) → 0 < i → get_or marks (i - 1) 0 ≡ mark_of decided → latest_decision marks i ≡ x → i ≡ x
@@ -23,17 +23,23 @@ module _ (marks : List ℕ) {x : ℕ} where
       let f : i ≡ suc (i - 1) = omega arith in
       rw (ne_eqb (get_or marks (i - 1) 0) (mark_of decided) q, latest_decision) at (ap (latest_decision marks) (sym f) ∙ e)
 
-  pub decision-end : (i : ℕ) → i ≤ 0 → latest_decision marks i ≡ x → 0 ≡ x
+  pub decision-end : (i : ℕ) → i ≤ 0 → latest_decision marks i ≡ x → x ≡ 0
   unfolding latest_decision
-  decision-end i h e = let f : i ≡ 0 = omega arith in rw (f, latest_decision) at e
+  decision-end i h e = let f : i ≡ 0 = omega arith in sym (rw (f, latest_decision) at e)
 
-module _ (trail : List ℕ) (n : ℕ) where
-  pub undo-turn : (values : Values) (i : ℕ) {x next : Values} → i < n → n ≤ length trail → next ≡ unassigned values (get_or trail i 0)
-      → cleared values (take (n - i) (drop i trail)) ≡ x → cleared next (take (n - (i + 1)) (drop (i + 1) trail)) ≡ x
-  unfolding cleared
-  undo-turn values i h k q e =
-      rw q (rw (part-cons trail n i h k, cleared) at e)
+module _ (at n : ℕ) (t : Trail) {u : Trail} (left : undo_from at n t ≡ u) where
+  pub undo-turn : {next : Values} → at < n → n ≤ length t.words → next ≡ unassigned t.values (get_or t.words at 0) → undo_from (at + 1) n (trail_arrays next t.words t.marks) ≡ u
+  unfolding undo_from cleared
+  undo-turn h k q = rw q (rw (part-cons t.words n at h k, cleared) at left)
 
-  pub undo-end : (values : Values) (i : ℕ) {x : Values} → n ≤ i → cleared values (take (n - i) (drop i trail)) ≡ x → values ≡ x
-  unfolding cleared
-  undo-end values i h e = rw (part-nil trail n i h, cleared) at e
+  pub undo-end : n ≤ at → t ≡ u
+  unfolding undo_from cleared
+  undo-end h = rw (part-nil t.words n at h, cleared) at left
+
+-- a place that is below 64 where there is one
+pub found-or-not : {f goals : ℕ} (zeros : ℕ) {o : Option ℕ} → (zeros < 64 → (zeros ≡ f) × (zeros < goals)) → (64 ≤ zeros → goals ≡ f)
+    → o ≡ then_some (nat_lt zeros 64) zeros → MatchOption o (f ≡ goals) (λ at. (f ≡ at) × (at < goals))
+found-or-not zeros found not is =
+    by-test (ltb zeros 64)
+    (λ t. let (here, inside) = found (ltb-true zeros 64 t) in rw (is, t) (sym here, inside))
+    (λ t. rw (is, t) (sym (not (ltb-false zeros 64 t))))

@@ -28,7 +28,7 @@ use Rattle.units.specs.TrailWords.{first_unset, TrailStands}
 -- a word that has a bit for each of n positions that is unset, and no other: its lowest bit is the first of them, and all of its bits are zeros
 -- where there is none
 abbrev FirstBy : Values → ℕ → ℕ → ℕ → ℕ → Type 0
-FirstBy values at n width zeros = (zeros < width → first_unset values at n ≡ at + zeros) × (zeros ≡ width → first_unset values at n ≡ at + n)
+FirstBy values at n width zeros = (zeros < width → (first_unset values at n ≡ at + zeros) × (zeros < n)) × (zeros ≡ width → first_unset values at n ≡ at + n)
 
 low_bit : (values : Values) (at n width m : ℕ) → n ≤ width → m < 2 ^ n → ((i : ℕ) → i < n → unset_at values (at + i) ≡ has i m) → FirstBy values at n width (count_trailing_zeros width m)
 unfolding first_unset has
@@ -45,10 +45,10 @@ low_bit values at (suc n) (suc width) m l h each =
     let zeros = zeros-even width m e in
     let power = pow-suc 2 n in
     let rest = low_bit values (suc at) n width (m / 2) (omega arith) (omega arith) (λ i k. let next : suc at + i ≡ at + suc i = omega arith in rw next (each (suc i) (omega arith))) in
-    rw zeros (λ z. let r = rest.0 (omega arith) in omega (arith, passed, r), λ z. let r = rest.1 (omega arith) in omega (arith, passed, r)))
+    rw zeros (λ z. let r = rest.0 (omega arith) in (omega (arith, passed, r.0), omega (arith, r.1)), λ z. let r = rest.1 (omega arith) in omega (arith, passed, r)))
     (λ e. let found : first_unset values at (suc n) ≡ at = let b : unset_at values at ≡ true = test ∙ rw e in rw (b, first_unset) in
     let zeros = zeros-odd width m e in
-    rw zeros (λ z. omega (arith, found), λ z. absurd (omega (arith, z))))
+    rw zeros (λ z. (omega (arith, found), omega arith), λ z. absurd (omega (arith, z))))
 
 -- the word of the goal atoms that are not set, masked by their number
 module _ (values : Values) (goals : ℕ) (few : goals ≤ 64) {set mask zeros : ℕ} (its : set ≡ goals_set values) (narrow : set < 2 ^ 64) (ones : mask ≡ 2 ^ goals - 1)
@@ -66,7 +66,10 @@ module _ (values : Values) (goals : ℕ) (few : goals ≤ 64) {set mask zeros : 
   found = rw low (low_bit values 0 goals 64 (bit_and (2 ^ 64 - 1 - set) mask) few (rw ones (mask_lt (2 ^ 64 - 1 - set) goals)) goal-bit)
 
   pub goal-found : zeros < 64 → zeros ≡ first_unset values 0 goals
-  goal-found l = omega (arith, found.0 l)
+  goal-found l = omega (arith, (found.0 l).0)
+
+  pub goal-inside : zeros < 64 → zeros < goals
+  goal-inside l = (found.0 l).1
 
   pub no-goal-found : 64 ≤ zeros → goals ≡ first_unset values 0 goals
   no-goal-found l = omega (arith, found.1 (omega (arith, low, trailing_le 64 (bit_and (2 ^ 64 - 1 - set) mask))))

@@ -1,6 +1,7 @@
 pub mod Units
 pub mod ClausesStand
 pub mod LiteralWords
+pub mod TrailArrays
 pub mod FalseWords
 pub mod UnitLaws
 pub mod TrailWords

@@ -1,15 +1,16 @@
 -- `column::first` meets its contract: a blank, a sign, a 0, or the first digit of several. Assumes nothing.
+use Rattle.std.proofs.Common.{arith}
 use Rattle.column.proofs.Scans.{blank, minus-sign, zero-digit, first-natural}
 use Rattle.column.proofs.first.Goals as goal
 
-pub returns-then-b-eq32 : goal.returns-then-b-eq32
-returns-then-b-eq32 c = blank c.args.b c.if-b-eq32.true
+pub returns-in-32 : goal.returns-in-32
+returns-in-32 c = blank _ (omega arith)
 
-pub returns-then-b-eq45 : goal.returns-then-b-eq45
-returns-then-b-eq45 c = minus-sign c.args.b c.if-b-eq45.true
+pub returns-in-45 : goal.returns-in-45
+returns-in-45 c = minus-sign _ (omega arith)
 
-pub returns-then-b-eq48 : goal.returns-then-b-eq48
-returns-then-b-eq48 c = zero-digit c.args.b c.if-b-eq48.true
+pub returns-in-48 : goal.returns-in-48
+returns-in-48 c = zero-digit _ (omega arith)
 
-pub returns : goal.returns
-returns c = first-natural c.args.b c.if-b-eq32.false c.if-b-eq45.false c.if-b-eq48.false c.first_digit.ensures
+pub returns-in_default : goal.returns-in_default
+returns-in_default c = first-natural _ (λ e. omega arith) (λ e. omega arith) (λ e. omega arith) c.first_digit.ensures

@@ -1,6 +1,6 @@
 -- `column::step` meets its contract, by the kind of scan. Assumes nothing.
 use Rattle.column.specs.Scan.{read_on, size_before}
-use Rattle.column.proofs.Scans.{after-zero, after-failed}
+use Rattle.column.proofs.Scans.{after-zero}
 use Rattle.column.proofs.step.Goals as goal
 
 pub digit-requires : goal.digit-requires
@@ -22,7 +22,3 @@ returns-in-Digits c = rw c.in-Digits.is c.digit.ensures
 pub returns-in-Zero : goal.returns-in-Zero
 unfolding read_on size_before
 returns-in-Zero c = rw c.in-Zero.is (after-zero c.args.b)
-
-pub returns-in-Failed : goal.returns-in-Failed
-unfolding read_on size_before
-returns-in-Failed c = rw c.in-Failed.is (after-failed c.args.b)

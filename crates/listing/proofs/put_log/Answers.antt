@@ -1,37 +1,29 @@
--- `listing::put_log` meets its contract: a clause each turn, and the lines of those from the n-th on are still to be put. Assumes nothing.
-use Prim.Native.Nat.{◌+◌, ◌-◌}
-use mathlib.Core.Path.{◌≡◌, refl}
-use native.Mathlib.Omega.{arith}
-use Rattle.listing.specs.Puts.{put-none-yet, put-length, put-first-room, put_first, put_all}
-use Rattle.listing.specs.Lines.{log_bytes}
+-- `put_log` meets its contract: a line each turn, and those from `n` on are still to be written. Assumes nothing.
+use Rattle.std.proofs.Common.{◌≡◌, ◌-◌, arith}
 use Rattle.listing.specs.JoinedLaws.{joined-first, joined-none}
-use Rattle.listing.proofs.Parts.{listable-first}
+use Rattle.listing.specs.Lines.{log_bytes}
+use Rattle.listing.specs.Left.{logged_of}
+use Rattle.listing.specs.Writes.{writing-all, writing-first-room, writing-first, writing-none}
 use Rattle.listing.proofs.put_log.Goals as goal
-
-pub overflow_sub-logged : goal.overflow_sub-logged
-overflow_sub-logged c = c.requires.0.some
 
 pub loop-n-init : goal.loop-n-init
 unfolding log_bytes
 loop-n-init c =
-    let a = c.args in
-    let all : a.clauses - a.given - 0 ≡ a.clauses - a.given = omega arith in
-    (omega arith, rw all (put-none-yet refl))
+    let x = c.args.searched.now in
+    let all : x.ended.run.clauses - x.given - 0 ≡ x.ended.run.clauses - x.given = omega arith in
+    writing-all (rw all)
 
-pub put_logged-here-requires : goal.put_logged-here-requires
-put_logged-here-requires c =
-    let loop = c.loop-n in (
-      omega (arith, c.requires.0.few),
-      listable-first c.requires.0 (c.args.given + loop.n + 1) (omega arith) (omega arith),
-      put-first-room loop.invariant.1 (joined-first _ _ _ c.loop-n-test.true) c.requires.1,
-    )
+pub put_logged-requires-clause-room : goal.put_logged-requires-clause-room
+put_logged-requires-clause-room c =
+    let x = c.args.searched.now in
+    writing-first-room c.loop-n.invariant (joined-first (logged_of x) (x.ended.run.clauses - x.given) c.loop-n.n (omega arith)) c.requires.room
 
 pub loop-n-preserved : goal.loop-n-preserved
 loop-n-preserved c =
-    (omega arith, put_first c.loop-n.invariant.1 (joined-first _ _ _ c.loop-n-test.true) c.put_logged-here.ensures)
-
-pub shape_of-room : goal.shape_of-room
-shape_of-room c = put-length c.loop-n.invariant.1
+    let x = c.args.searched.now in
+    writing-first c.loop-n.invariant (joined-first (logged_of x) (x.ended.run.clauses - x.given) c.loop-n.n (omega arith)) c.put_logged.ensures
 
 pub returns : goal.returns
-returns c = put_all c.loop-n.invariant.1 (joined-none _ _ _ c.loop-n-test.false)
+returns c =
+    let x = c.args.searched.now in
+    writing-none c.loop-n.invariant (joined-none (logged_of x) (x.ended.run.clauses - x.given) c.loop-n.n (omega arith))

@@ -1,20 +1,10 @@
--- `listing::put_log` meets its contract: a clause each turn, and the lines of those from the n-th on are still to be put. Assumes nothing.
-use Prim.Native.Nat.{◌-◌, ◌≤◌}
+-- `put_log` meets its contract: a line each turn, and those from `n` on are still to be written. Assumes nothing.
+use Rattle.std.proofs.Common.{◌-◌}
 use Rattle.definitions.specs.Lists.{joined, up_from}
-use Rattle.listing.specs.Puts.{Putting}
-use Rattle.listing.specs.Lines.{logged_bytes, log_bytes}
+use Rattle.listing.specs.Left.{logged_of, log_of}
+use Rattle.listing.specs.Writes.{Writing}
 use Rattle.listing.proofs.put_log.Given as goal
 
 abbrev pub invariant-loop-n : goal.invariant-loop-n
 invariant-loop-n l =
-    (l.n ≤ l.logged)
-    × Putting
-    l.initial.room
-    l.at
-    (log_bytes l.given l.clauses l.arities l.starts l.literals l.numbers l.table)
-    (joined (logged_bytes l.given l.arities l.starts l.literals l.numbers l.table) (up_from l.n (l.logged - l.n)))
-    l.here
-    l.room
-
-abbrev pub decreases-loop-n : goal.decreases-loop-n
-decreases-loop-n l = l.logged - l.n
+    Writing l.initial.out (log_of l.searched) (joined (logged_of l.searched) (up_from l.n (l.searched.ended.run.clauses - l.searched.given - l.n))) l.out

@@ -1,16 +1,25 @@
--- `listing::put_setting` meets its contract: no line, or that of the atom's literal. Assumes nothing.
-use mathlib.Core.Path.{refl}
-use Rattle.listing.specs.Puts.{put-none-yet, put-room, put_last, put_all}
-use Rattle.listing.proofs.Parts.{setting-unset, setting-set}
+-- `put_setting` meets its contract: no line, or that of the atom's literal. Assumes nothing.
+use Rattle.std.proofs.Common.{refl}
+use Rattle.listing.specs.Puts.{as_written}
+use Rattle.listing.specs.Writes.{writing-all, writing-none, first-room, more-room, both-written}
+use Rattle.listing.proofs.Parts.{setting-unset, setting-first}
 use Rattle.listing.proofs.put_setting.Goals as goal
 
 pub returns-then-is_unset : goal.returns-then-is_unset
-returns-then-is_unset c = put_all (put-none-yet refl) (setting-unset _ _ _ _ c.is_unset.ensures c.if-is_unset.true)
+returns-then-is_unset c = writing-none (writing-all refl) (setting-unset c.args.searched.now c.args.i c.is_unset.ensures c.if-is_unset.true)
 
-pub put_set-requires : goal.put_set-requires
-put_set-requires c =
-    put-room (put-none-yet {room = c.args.room.now} (setting-set _ _ _ _ c.is_unset.ensures c.if-is_unset.false c.is_false-negative.ensures)) c.requires.1
+pub numbers-requires : goal.numbers-requires
+numbers-requires c = first-room (setting-first c.args.searched.now c.args.i c.is_unset.ensures c.if-is_unset.false c.is_false-negative.ensures) c.requires.room
+
+pub put_literal-requires : goal.put_literal-requires
+put_literal-requires c =
+    first-room as_written (more-room (setting-first c.args.searched.now c.args.i c.is_unset.ensures c.if-is_unset.false c.is_false-negative.ensures) c.numbers.ensures c.requires.room)
+
+pub byte-requires : goal.byte-requires
+byte-requires c =
+    more-room as_written c.put_literal.ensures (more-room (setting-first c.args.searched.now c.args.i c.is_unset.ensures c.if-is_unset.false c.is_false-negative.ensures) c.numbers.ensures c.requires.room)
 
 pub returns : goal.returns
 returns c =
-    put_last (put-none-yet (setting-set _ _ _ _ c.is_unset.ensures c.if-is_unset.false c.is_false-negative.ensures)) c.put_set.ensures
+    both-written (setting-first c.args.searched.now c.args.i c.is_unset.ensures c.if-is_unset.false c.is_false-negative.ensures) c.numbers.ensures
+    (both-written as_written c.put_literal.ensures c.byte.ensures)

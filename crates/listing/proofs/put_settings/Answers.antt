@@ -1,27 +1,30 @@
--- `listing::put_settings` meets its contract: a position each turn, and the lines of those from `i` on are still to be put. Assumes nothing.
-use Prim.Native.Nat.{◌-◌}
-use mathlib.Core.Path.{◌≡◌, refl}
-use native.Mathlib.Omega.{arith}
-use Rattle.listing.specs.Puts.{put-none-yet, put-length, put-first-room, put_first, put_all}
+-- `put_settings` meets its contract: a line each turn, and those from `i` on are still to be written. Assumes nothing.
+use Rattle.std.proofs.Common.{◌≡◌, refl, ◌-◌, arith}
 use Rattle.listing.specs.JoinedLaws.{joined-first, joined-none}
+use Rattle.listing.specs.Left.{setting_of}
+use Rattle.listing.specs.Writes.{writing-all, writing-first-room, writing-first, writing-none}
+use Rattle.listing.proofs.Parts.{settings-unknown, settings-none}
 use Rattle.listing.proofs.put_settings.Goals as goal
+
+pub returns-in_default : goal.returns-in_default
+returns-in_default c = writing-none (writing-all refl) (settings-none c.args.searched.now c.in_default.not-Unknown)
 
 pub loop-i-init : goal.loop-i-init
 loop-i-init c =
-    let all : c.args.atoms - 0 ≡ c.args.atoms = omega arith in
-    (omega arith, rw all (put-none-yet refl))
+    let all : c.args.searched.now.ended.run.atoms - 0 ≡ c.args.searched.now.ended.run.atoms = omega arith in
+    writing-all (rw all (settings-unknown c.args.searched.now c.in-Unknown.is))
 
-pub put_setting-here-requires : goal.put_setting-here-requires
-put_setting-here-requires c =
-    let loop = c.loop-i in
-    (omega arith, put-first-room loop.invariant.1 (joined-first _ _ _ c.loop-i-test.true) c.requires.1)
+pub put_setting-requires-clause-room : goal.put_setting-requires-clause-room
+put_setting-requires-clause-room c =
+    let x = c.args.searched.now in
+    writing-first-room c.loop-i.invariant (joined-first (setting_of x) x.ended.run.atoms c.loop-i.i (omega arith)) c.requires.room
 
 pub loop-i-preserved : goal.loop-i-preserved
 loop-i-preserved c =
-    (omega arith, put_first c.loop-i.invariant.1 (joined-first _ _ _ c.loop-i-test.true) c.put_setting-here.ensures)
-
-pub shape_of-room : goal.shape_of-room
-shape_of-room c = put-length c.loop-i.invariant.1
+    let x = c.args.searched.now in
+    writing-first c.loop-i.invariant (joined-first (setting_of x) x.ended.run.atoms c.loop-i.i (omega arith)) c.put_setting.ensures
 
 pub returns : goal.returns
-returns c = put_all c.loop-i.invariant.1 (joined-none _ _ _ c.loop-i-test.false)
+returns c =
+    let x = c.args.searched.now in
+    writing-none c.loop-i.invariant (joined-none (setting_of x) x.ended.run.atoms c.loop-i.i (omega arith))
