@@ -1,3 +1,3 @@
-pub mod SameWords
+pub mod Filled
 pub mod Numerals
 pub mod Orders

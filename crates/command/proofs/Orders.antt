@@ -1,113 +1,90 @@
 -- Words as they are lent, none, one, or a first one and the rest: each case of the code by the definitions' own equations. Assumes nothing.
-use Prim.Native.Nat.{ℕ, zero, suc, ◌-◌, ◌<◌, ◌≤◌}
-use mathlib.Core.Path.{◌≡◌, refl, sym, ap, ◌∙◌}
-use mathlib.Core.Bool.{true, false}
-use mathlib.Core.List.{List, [], ◌∷◌, map}
-use native.Mathlib.Omega.{arith}
-use lib.ListN.{length, get_or, drop, take}
-use lib.Seq.{take_all}
+use Rattle.std.proofs.Common.{ℕ, ◌-◌, ◌<◌, ◌≤◌, ◌≡◌, Bool, true, false, ◌&&◌, cond, nat_eq, eqb, List, [], ◌∷◌, map, length, get_or, drop, take, take_all, Option, Some, None, Bor, refl, ap, arith}
+use Rattle.std.specs.Cmp.Lexicographic.{pointwise}
+use Rattle.definitions.specs.Words.{same_args}
 use Rattle.definitions.specs.Text.{bytes}
-use Rattle.definitions.specs.Command.{usual_budget, same_word, numeral, printed_by, budgeted, order}
-use Rattle.definitions.specs.declared.Numeral.{Numeral}
-use Rattle.definitions.specs.declared.Numeral.TheVariants.{Value, NoNumber}
-use Rattle.definitions.specs.declared.Order.TheVariants.{Listing, Cnf, Usage}
+use Rattle.definitions.specs.Command.{same_word, numeral, printed_by, budgeted, order}
+use Rattle.definitions.specs.declared.Order.{Order}
+use Rattle.definitions.specs.declared.Order.TheVariants.{Listing, Cnf}
 use Rattle.theory.specs.Tests.{by-test}
 
-module _ {A : Type 0} (word : A → List ℕ) where
-  no_words : (ws : List A) → length ws ≡ 0 → map word ws ≡ []
-  no_words [] e = refl
-  no_words (w ∷ ws) e = absurd (omega arith)
+-- the words themselves
+abbrev said : List (Bor (List ℕ)) → List (List ℕ)
+said ws = map (λ x. x.now) ws
 
-  one_word : (ws : List A) (d : A) → length ws ≡ 1 → map word ws ≡ word (get_or ws 0 d) ∷ []
-  one_word [] d e = absurd (omega arith)
-  one_word (w ∷ []) d e = refl
-  one_word (w ∷ v ∷ ws) d e = absurd (omega arith)
+-- and the first one
+abbrev first : List (Bor (List ℕ)) → List ℕ
+first ws = (get_or ws 0 record { ref_ptr = (0, 0); now = [] }).now
 
-  abbrev rest : List A → List A
-  rest ws = take (length ws - 1) (drop 1 ws)
+abbrev rest : List (Bor (List ℕ)) → List (Bor (List ℕ))
+rest ws = take (length ws - 1) (drop 1 ws)
 
-  first-and-rest : (ws : List A) (d : A) → (length ws ≡ 0 → ⊥) → map word ws ≡ word (get_or ws 0 d) ∷ map word (rest ws)
-  first-and-rest [] d some_word = absurd (some_word refl)
-  first-and-rest (w ∷ ws) d some_word = rw (take_all (length (w ∷ ws) - 1) ws (omega arith))
+same-words : (a b : List ℕ) → same_word a b ≡ pointwise nat_eq a b
+unfolding same_args
+same-words [] [] = refl
+same-words [] (y ∷ ys) = refl
+same-words (x ∷ xs) [] = refl
+same-words (x ∷ xs) (y ∷ ys) = ap (λ t. eqb x y && t) (same-words xs ys)
 
-  -- ── the words behind the budget ──
+-- ── the words behind the budget ──
 
-  module _ (budget : ℕ) (ws : List A) where
-    pub listing-ordered : length ws ≡ 0 → Listing budget ≡ printed_by budget (map word ws)
-    unfolding printed_by
-    listing-ordered none = rw (no_words ws none)
+pub listing_for_none : (budget : ℕ) (ws : List (Bor (List ℕ))) → length ws < 1 → printed_by budget (said ws) ≡ Some (Listing budget)
+unfolding printed_by
+listing_for_none budget [] none = refl
+listing_for_none budget (w ∷ ws) none = absurd (omega arith)
 
-    pub printed-many : (length ws ≡ 0 → ⊥) → (length ws ≡ 1 → ⊥) → Usage ≡ printed_by budget (map word ws)
-    unfolding printed_by
-    printed-many = by_length ws
-      where
-        by_length : (vs : List A) → (length vs ≡ 0 → ⊥) → (length vs ≡ 1 → ⊥) → Usage ≡ printed_by budget (map word vs)
-        by_length [] n m = absurd (n refl)
-        by_length (w ∷ []) n m = absurd (m refl)
-        by_length (w ∷ v ∷ vs) n m = refl
+pub cnf_for_one : (budget : ℕ) (ws : List (Bor (List ℕ))) → length ws ≡ 1 → printed_by budget (said ws) ≡ cond (pointwise nat_eq (first ws) (99 ∷ 110 ∷ 102 ∷ [])) (Some (Cnf budget)) None
+unfolding printed_by bytes
+cnf_for_one budget [] one = absurd (omega arith)
+cnf_for_one budget (w ∷ []) one = rw (printed_by, same-words w.now (99 ∷ 110 ∷ 102 ∷ [])) (either (pointwise nat_eq w.now (99 ∷ 110 ∷ 102 ∷ [])))
+  where
+    either : (b : Bool) → elim b [ true ↦ Some (Cnf budget) | false ↦ None ] ≡ cond b (Some (Cnf budget)) None
+    either true = refl
+    either false = refl
+cnf_for_one budget (w ∷ v ∷ ws) one = absurd (omega arith)
 
-    module _ (d : A) (one : length ws ≡ 1) where
-      pub printed-cnf : true ≡ same_word (word (get_or ws 0 d)) (bytes "cnf") → Cnf budget ≡ printed_by budget (map word ws)
-      unfolding printed_by
-      printed-cnf is = rw (one_word ws d one, printed_by, ← is)
+pub none_for_more : (budget : ℕ) (ws : List (Bor (List ℕ))) → 2 ≤ length ws → printed_by budget (said ws) ≡ None
+unfolding printed_by
+none_for_more budget [] more = absurd (omega arith)
+none_for_more budget (w ∷ []) more = absurd (omega arith)
+none_for_more budget (w ∷ v ∷ ws) more = refl
 
-      pub printed-unknown : false ≡ same_word (word (get_or ws 0 d)) (bytes "cnf") → Usage ≡ printed_by budget (map word ws)
-      unfolding printed_by
-      printed-unknown isn't = rw (one_word ws d one, printed_by, ← isn't)
+-- what `printed_by` needs
+pub ruleset printed = (listing_for_none, cnf_for_one, none_for_more)
 
-  -- ── the words behind `budget`, and all words ──
+-- ── all words ──
 
-  module _ (ws : List A) where
-    pub budgeted-none : length ws ≡ 0 → Usage ≡ budgeted (map word ws)
-    unfolding budgeted
-    budgeted-none none = rw (no_words ws none)
+abbrev budget_word : List ℕ
+budget_word = 98 ∷ 117 ∷ 100 ∷ 103 ∷ 101 ∷ 116 ∷ []
 
-    pub order-none : length ws ≡ 0 → printed_by usual_budget (map word ws) ≡ order (map word ws)
-    unfolding order
-    order-none none = rw (no_words ws none)
+pub order_by_budget : (ws : List (Bor (List ℕ))) → 1 ≤ length ws → pointwise nat_eq (first ws) budget_word ≡ true → order (said ws) ≡ budgeted (said (rest ws))
+unfolding order bytes
+order_by_budget [] some_word is = absurd (omega arith)
+order_by_budget (w ∷ ws) some_word is = rw (take_all (length (w ∷ ws) - 1) ws (omega arith), order, same-words w.now budget_word, is) refl
 
-    module _ (d : A) (some_word : length ws ≡ 0 → ⊥) where
-      pub budgeted-number : (budget : ℕ) → Value budget ≡ numeral (word (get_or ws 0 d)) → printed_by budget (map word (rest ws)) ≡ budgeted (map word ws)
-      unfolding budgeted
-      budgeted-number budget e = rw (first-and-rest ws d some_word, budgeted, ← e)
+pub order_by_others : (ws : List (Bor (List ℕ))) → (1 ≤ length ws → pointwise nat_eq (first ws) budget_word ≡ false) → order (said ws) ≡ printed_by 1000000 (said ws)
+unfolding order bytes
+order_by_others [] isn't = refl
+order_by_others (w ∷ ws) isn't = rw (order, same-words w.now budget_word, isn't (omega arith)) refl
 
-      pub budgeted-bad : NoNumber ≡ numeral (word (get_or ws 0 d)) → Usage ≡ budgeted (map word ws)
-      unfolding budgeted
-      budgeted-bad e = rw (first-and-rest ws d some_word, budgeted, ← e)
-
-      pub order-budget : true ≡ same_word (word (get_or ws 0 d)) (bytes "budget") → budgeted (map word (rest ws)) ≡ order (map word ws)
-      unfolding order
-      order-budget is = rw (first-and-rest ws d some_word, order, ← is)
-
-      pub order_other : false ≡ same_word (word (get_or ws 0 d)) (bytes "budget") → printed_by usual_budget (map word ws) ≡ order (map word ws)
-      unfolding order
-      order_other isn't = rw (first-and-rest ws d some_word, order, ← isn't)
+-- what `ordered` needs
+pub ruleset orders = (order_by_budget, order_by_others)
 
 -- ── words of which the first three are looked at ──
 
-many-budgeted : (n w v : List ℕ) (ws : List (List ℕ)) → Usage ≡ budgeted (n ∷ w ∷ v ∷ ws)
+many-budgeted : (n w v : List ℕ) (ws : List (List ℕ)) → budgeted (n ∷ w ∷ v ∷ ws) ≡ None
 unfolding budgeted printed_by
 many-budgeted n w v ws = by-numeral (numeral n)
   where
-    by-numeral : (x : Numeral) → Usage ≡ elim x [ Value budget ↦ printed_by budget (w ∷ v ∷ ws) | NoNumber ↦ Usage ]
-    by-numeral (Value budget) = refl
-    by-numeral NoNumber = refl
+    by-numeral : (x : Option ℕ) → ◌≡◌ {A = Option Order} (elim x [ Some budget ↦ printed_by budget (w ∷ v ∷ ws) | None ↦ None ]) None
+    by-numeral (Some budget) = refl
+    by-numeral None = refl
 
 -- more than three are too many, whatever they are
-pub words-too-many : (ws : List (List ℕ)) → 3 < length ws → Usage ≡ order ws
+pub none_for_four : (ws : List (List ℕ)) → 3 < length ws → order ws ≡ None
 unfolding order printed_by
-words-too-many [] h = absurd (omega arith)
-words-too-many (w ∷ []) h = absurd (omega arith)
-words-too-many (w ∷ n ∷ []) h = absurd (omega arith)
-words-too-many (w ∷ n ∷ v ∷ []) h = absurd (omega arith)
-words-too-many (w ∷ n ∷ v ∷ u ∷ ws) h = by-test (same_word w (bytes "budget")) (λ e. rw (order, e) (many-budgeted n v u ws)) (λ e. rw (order, e))
-
-map-take : {A B : Type 0} (f : A → B) (n : ℕ) (l : List A) → map f (take n l) ≡ take n (map f l)
-map-take f zero l = refl
-map-take f (suc n) [] = refl
-map-take f (suc n) (x ∷ xs) = ap (λ l. f x ∷ l) (map-take f n xs)
-
--- at most three are those that are lent
-pub all-words-lent : {A : Type 0} (word : A → List ℕ) (count : ℕ) (lent : List A) (words : List (List ℕ)) → count ≤ 3 → length words ≡ count
-    → take 3 words ≡ take count (map word lent) → order (map word (take count lent)) ≡ order words
-all-words-lent word count lent words few e front = ap order (map-take word count lent ∙ sym front ∙ take_all 3 words (omega arith))
+none_for_four [] h = absurd (omega arith)
+none_for_four (w ∷ []) h = absurd (omega arith)
+none_for_four (w ∷ n ∷ []) h = absurd (omega arith)
+none_for_four (w ∷ n ∷ v ∷ []) h = absurd (omega arith)
+none_for_four (w ∷ n ∷ v ∷ u ∷ ws) h = by-test (same_word w (bytes "budget")) (λ e. rw (order, e) (many-budgeted n v u ws)) (λ e. rw (order, e))

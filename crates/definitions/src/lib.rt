@@ -5,6 +5,7 @@
 
 ghost use Rattle.std.specs.Prelude.{◌≡◌};
 ghost use Rattle.definitions.specs.Numbered.{question_number};
+ghost use Rattle.definitions.specs.Answers.{asked_of_call, answer_from};
 
 // The questions by their numbers: 1 and 15 are asked of what a call is lent, 2 and 3 of a sheet, 4 to 14 of each of its lines, 21 and 22 of
 // a text in DIMACS CNF.
@@ -44,6 +45,17 @@ pub struct Refusal {
     pub line: u16,
 }
 
+impl From<Question> for Refusal {
+    ghost from_gives = { λ question refusal. refusal ≡ asked_of_call question };
+
+    fn from(question: Question) -> Refusal {
+        Refusal {
+            number: question.into(),
+            line: 0,
+        }
+    }
+}
+
 // The four answers of the search.
 #[derive(Clone, Copy, Drop)]
 pub enum Verdict {
@@ -70,6 +82,17 @@ pub enum Answer {
     Answered(Counts),
 }
 
+impl From<Result<Counts, Refusal>> for Answer {
+    ghost from_gives = { λ ended answer. answer ≡ answer_from ended };
+
+    fn from(ended: Result<Counts, Refusal>) -> Answer {
+        match ended {
+            Ok(counts) => Answer::Answered(counts),
+            Err(refusal) => Answer::Refused(refusal),
+        }
+    }
+}
+
 // What an export hands back: the answer, and how many bytes at the front of its room hold the text.
 #[derive(Clone, Copy, Drop)]
 pub struct Exported {
@@ -77,18 +100,9 @@ pub struct Exported {
     pub length: usize,
 }
 
-// A word of the command that is to be a number of 32 bits.
-#[derive(Clone, Copy, Drop)]
-pub enum Numeral {
-    Value(u32),
-    NoNumber,
-}
-
-// What the command's words order: the listing or the clauses, with the budget of the search; or they are no words of it, and it says which
-// are.
+// What the command's words order: the listing or the clauses, with the budget of the search.
 #[derive(Clone, Copy, Drop)]
 pub enum Order {
     Listing(u32),
     Cnf(u32),
-    Usage,
 }

@@ -3,13 +3,10 @@
 // are told on standard error.
 #![tactic(auto)]
 
-ghost use Rattle.std.specs.Prelude.{◌≤◌, ◌<◌, length, take, IfOk, IfErr, OnOk};
-ghost use Rattle.std.specs.Io.{ReadsAtMost};
-ghost use Rattle.std.specs.Io.KnownBytes.{Consumes, IsAtEnd};
-ghost use Rattle.definitions.specs.Call.{printed};
-ghost use Rattle.definitions.specs.Export.{printed_cnf};
-ghost use Rattle.thunyaworm.specs.Outputs.{Outputs, KeepsUnread};
+ghost use Rattle.std.specs.Prelude.{IfErr, OnOk};
+ghost use Rattle.thunyaworm.specs.Outputs.{Outputs, KeepsUnread, printed_as};
 
+use command::input::read_full;
 use definitions::Order;
 use std::env::{Env, FillError};
 use std::io::{Read, Write};
@@ -56,63 +53,36 @@ impl fmt::Display for Reason<'_> {
     }
 }
 
-// Reads until the input ends or the buffer is full. A sheet that is too long is refused, so one byte more than a sheet may have is all
-// that has to be held of it.
-fn read_sheet<R: Read>(input: &mut R, sheet: &mut [u8]) -> io::Result<usize>
-    ensures within { ReadsAtMost result sheet.new }
-    ensures front { IfOk result (λ n. Consumes (R.remaining input.old) (R.remaining input.new) (take n sheet.new)) }
-    ensures whole { IfOk result (λ n. n < length sheet.new → IsAtEnd (R.remaining input.new)) }
+// Reads a sheet, and prints of it what the words order. A sheet that is too long is refused, so one byte more than a sheet may have is
+// all that has to be held of it.
+fn print<R: Read, W: Write>(input: &mut R, output: &mut W, order: Order) -> Result<(), Failure>
+    ensures printed { OnOk result (Outputs (printed_as order) (R.remaining input.old) (W.contents output.old) (W.contents output.new)) }
+    ensures unread { IfErr result (KeepsUnread (W.contents output.old) (W.contents output.new)) }
 {
-    let mut count: usize = 0;
-    while count < sheet.len() {
-        let more = input.read(&mut sheet[count..])?;
-        if more == 0 {
-            return Ok(count);
+    let mut buffer = [0u8; solver::SHEET_BUFFER];
+    let sheet = read_full(input, &mut buffer).map_err(Failure::Unread)?;
+    match order {
+        Order::Listing(budget) => {
+            let mut room = [0u8; solver::ROOM];
+            let size = solver::print(sheet, budget, &mut room);
+            output.write_all(&room[..size]).map_err(Failure::Unwritten)
         }
-        count += more;
+        Order::Cnf(budget) => {
+            let mut cnf = [0u8; solver::EXPORT_ROOM];
+            let size = solver::print_cnf(sheet, budget, &mut cnf);
+            output.write_all(&cnf[..size]).map_err(Failure::Unwritten)
+        }
     }
-    Ok(count)
-}
-
-// Document 01's program.
-fn print_listing<R: Read, W: Write>(
-    input: &mut R,
-    output: &mut W,
-    budget: u32,
-) -> Result<(), Failure>
-    ensures printed { OnOk result (Outputs (λ sheet. printed sheet budget) (R.remaining input.old)
-        (W.contents output.old) (W.contents output.new)) }
-    ensures unread { IfErr result (KeepsUnread (W.contents output.old) (W.contents output.new)) }
-{
-    let mut sheet = [0u8; solver::SHEET_BUFFER];
-    let mut room = [0u8; solver::ROOM];
-    let count = read_sheet(input, &mut sheet).map_err(Failure::Unread)?;
-    let size = solver::print(&sheet[..count], budget, &mut room);
-    output.write_all(&room[..size]).map_err(Failure::Unwritten)
-}
-
-// The clauses.
-fn print_cnf<R: Read, W: Write>(input: &mut R, output: &mut W, budget: u32) -> Result<(), Failure>
-    ensures printed { OnOk result (Outputs (λ sheet. printed_cnf sheet budget) (R.remaining input.old)
-        (W.contents output.old) (W.contents output.new)) }
-    ensures unread { IfErr result (KeepsUnread (W.contents output.old) (W.contents output.new)) }
-{
-    let mut sheet = [0u8; solver::SHEET_BUFFER];
-    let mut cnf = [0u8; solver::EXPORT_ROOM];
-    let count = read_sheet(input, &mut sheet).map_err(Failure::Unread)?;
-    let size = solver::print_cnf(&sheet[..count], budget, &mut cnf);
-    output.write_all(&cnf[..size]).map_err(Failure::Unwritten)
 }
 
 // A word behind the command's name. One that doesn't fit is as long as the buffer, and so none of the command's.
-fn fetch(rt: &impl Env, i: usize, word: &mut [u8; WORD_BUFFER]) -> usize
-    ensures { result ≤ length word.new }
-{
-    match rt.arg(i, word) {
+fn fetch<'a>(rt: &impl Env, i: usize, word: &'a mut [u8; WORD_BUFFER]) -> &'a [u8] {
+    let length = match rt.arg(i, word) {
         Ok(length) => length,
         Err(FillError::TooLong) => WORD_BUFFER,
         Err(FillError::NotPresent) => 0,
-    }
+    };
+    &word[..length]
 }
 
 // How many words stand behind the command's name, which is an argument too.
@@ -129,32 +99,24 @@ fn count_words(rt: &impl Env) -> usize {
 }
 
 // What the words order.
-fn order(rt: &impl Env) -> Order {
-    let mut first = [0u8; WORD_BUFFER];
-    let mut second = [0u8; WORD_BUFFER];
-    let mut third = [0u8; WORD_BUFFER];
-    let one = fetch(rt, 1, &mut first);
-    let two = fetch(rt, 2, &mut second);
-    let three = fetch(rt, 3, &mut third);
-    command::order_of(
-        count_words(rt),
-        &first[..one],
-        &second[..two],
-        &third[..three],
-    )
+fn order(rt: &impl Env) -> Option<Order> {
+    let mut words = [[0u8; WORD_BUFFER]; 3];
+    let [first, second, third] = &mut words;
+    let lent = [
+        fetch(rt, 1, first),
+        fetch(rt, 2, second),
+        fetch(rt, 3, third),
+    ];
+    command::order_of(count_words(rt), lent)
 }
 
 // What the words order is printed; what failed is told, as far as standard error takes it.
 fn main(rt: HostRuntime) {
-    let printed = match order(&rt) {
-        Order::Listing(budget) => print_listing(&mut rt.stdin(), &mut rt.stdout(), budget),
-        Order::Cnf(budget) => print_cnf(&mut rt.stdin(), &mut rt.stdout(), budget),
-        Order::Usage => {
-            let _ = rt.eprintln("usage: thunyaworm [budget N] [cnf] < SHEET");
-            Ok(())
-        }
+    let Some(order) = order(&rt) else {
+        let _ = rt.eprintln("usage: thunyaworm [budget N] [cnf] < SHEET");
+        return;
     };
-    if let Err(failure) = printed {
+    if let Err(failure) = print(&mut rt.stdin(), &mut rt.stdout(), order) {
         let _ = eprintln!(rt; "thunyaworm: {failure}");
     }
 }

@@ -3,11 +3,11 @@
 #![tactic(auto)]
 
 ghost use Rattle.std.specs.Prelude.{◌≤◌, length};
-ghost use Rattle.std.specs.Io.{ReadsAtMost};
 
+use command::input::read_full;
 use definitions::Answer;
 use std::io;
-use std::io::{Input, Read};
+use std::io::Input;
 
 // The most sheets that are read.
 const SHEETS: usize = 1000;
@@ -18,37 +18,23 @@ fn mark(at: usize) -> u8 {
 }
 
 fn fill(room: &mut [u8]) {
-    for i in 0..room.len() {
-        room[i] = mark(i);
+    for (i, byte) in room.iter_mut().enumerate() {
+        *byte = mark(i);
     }
-}
-
-// 1 for two different bytes, 0 for the same byte twice.
-fn differ(a: u8, b: u8) -> usize
-    ensures { result ≤ 1 }
-{
-    if a == b {
-        return 0;
-    }
-    1
 }
 
 // How many bytes of a room are no longer those before, from a place on.
 fn changed(room: &[u8], from: usize) -> usize {
-    let mut count: usize = 0;
-    for i in from..room.len() {
-        count += differ(room[i], mark(i));
-    }
-    count
+    room.iter()
+        .enumerate()
+        .skip(from)
+        .filter(|(i, byte)| **byte != mark(*i))
+        .count()
 }
 
 // In how many bytes two rooms differ, as far as both go.
 fn unlike(one: &[u8], other: &[u8]) -> usize {
-    let mut count: usize = 0;
-    for i in 0..one.len().min(other.len()) {
-        count += differ(one[i], other[i]);
-    }
-    count
+    one.iter().zip(other).filter(|(a, b)| a != b).count()
 }
 
 fn print(rt: &impl Print, n: u64) -> io::Result<()> {
@@ -60,16 +46,15 @@ fn print_answer(rt: &impl Print, answer: Answer) -> io::Result<()> {
     match answer {
         Answer::Refused(refusal) => {
             print!(rt; "refused")?;
-            print(rt, refusal.number as u64)?;
-            print(rt, refusal.line as u64)
+            print(rt, u64::from(refusal.number))?;
+            print(rt, u64::from(refusal.line))
         }
         Answer::Answered(counts) => {
             print!(rt; "answered")?;
-            let verdict = counts.verdict;
-            print(rt, listing::number(verdict) as u64)?;
-            print(rt, counts.atoms as u64)?;
-            print(rt, counts.logged as u64)?;
-            print(rt, counts.decisions as u64)?;
+            print(rt, u64::from(listing::number(counts.verdict)))?;
+            print(rt, u64::from(counts.atoms))?;
+            print(rt, u64::from(counts.logged))?;
+            print(rt, u64::from(counts.decisions))?;
             print(rt, counts.conflicts)
         }
     }
@@ -128,70 +113,39 @@ fn trial(
 fn digit(b: u8) -> u64
     ensures { result ≤ 9 }
 {
-    if b < 48 {
-        return 0;
+    match b {
+        b'0'..=b'9' => u64::from(b - b'0'),
+        _ => 0,
     }
-    if 57 < b {
-        return 0;
-    }
-    (b - 48) as u64
 }
 
-// A number with one more digit, but no more than what is named.
-fn grown(value: u64, b: u8, most: u64) -> u64
-    requires { value ≤ 4294967295 }
-    ensures { result ≤ most }
-{
-    let sum = value * 10 + digit(b);
-    if most < sum {
-        return most;
-    }
-    sum
-}
-
-// The number in some places of a line, but no more than what is named.
-fn number(line: &[u8; 23], from: usize, to: usize, most: u64) -> u64
-    requires within { to ≤ 23 }
-    requires fits { most ≤ 4294967295 }
+// The number that digits make, but no more than what is named.
+fn number(digits: &[u8], most: u64) -> u64
+    requires { most ≤ 4294967295 }
     ensures { result ≤ most }
 {
     let mut value: u64 = 0;
-    for i in from..to {
-        value = grown(value, line[i], most);
+    for b in digits {
+        value = (value * 10 + digit(*b)).min(most);
     }
     value
-}
-
-// Reads until the buffer is full or the input ends.
-fn read_full<R: Read>(input: &mut R, buffer: &mut [u8]) -> io::Result<usize>
-    ensures { ReadsAtMost result buffer.new }
-{
-    let mut count: usize = 0;
-    while count < buffer.len() {
-        let more = input.read(&mut buffer[count..])?;
-        if more == 0 {
-            break;
-        }
-        count += more;
-    }
-    Ok(count)
 }
 
 fn main(rt: HostRuntime) -> io::Result<()> {
     let mut input = rt.reader();
     for _ in 0..SHEETS {
         let mut line = [0u8; 23];
-        if read_full(&mut input, &mut line)? < 23 {
+        if read_full(&mut input, &mut line)?.len() < line.len() {
             break;
         }
-        let length = number(&line, 0, 5, 99999) as usize;
-        let budget = number(&line, 6, 16, 4294967295) as u32;
-        let size = number(&line, 17, 22, 45100) as usize;
+        let length = number(&line[..5], 99999) as usize;
+        let budget = number(&line[6..16], 4294967295) as u32;
+        let size = number(&line[17..22], 45100) as usize;
         let mut space = [0u8; 99999];
-        let count = read_full(&mut input, &mut space[..length])?;
+        let sheet = read_full(&mut input, &mut space[..length])?;
         let mut first = [0u8; 45100];
         let mut second = [0u8; 45100];
-        trial(&rt, &space[..count], budget, size, &mut first, &mut second)?;
+        trial(&rt, sheet, budget, size, &mut first, &mut second)?;
     }
     Ok(())
 }

@@ -1,8 +1,8 @@
 use Rattle.std.proofs.Common.{rules, subst}
 use Rattle.std.specs.Io.KnownBytes.{Consumes}
 use Rattle.std.proofs.KnownBytes.{Consumes-trans}
-use Rattle.thunyaworm.proofs.Printing.{filled-more}
-use Rattle.thunyaworm.proofs.read_sheet.Goals as goal
+use Rattle.command.proofs.Filled.{filled-more}
+use Rattle.command.proofs.input.read_full.Goals as goal
 
 pub loop-count-preserved : goal.loop-count-preserved
 loop-count-preserved g c =
