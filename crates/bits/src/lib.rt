@@ -9,20 +9,6 @@ ghost use Rattle.std.specs.Int.Bits.{bit_or};
 ghost use Rattle.std.specs.Int.Count.{count_trailing_zeros};
 ghost use Rattle.bits.specs.Bits.{has};
 
-// A word as a number of the machine's size.
-pub fn wide32(x: u32) -> usize
-    ensures { (result ≡ x) × (result < 4294967296) }
-{
-    x as usize
-}
-
-// A word that is read from an array; through a call the proof knows its bound.
-pub fn word(x: u32) -> u32
-    ensures { (result ≡ x) × (result < 4294967296) }
-{
-    x
-}
-
 // Whether a bit is set.
 pub fn has_bit(m: u32, c: usize) -> bool
     requires { c < 32 }
@@ -44,7 +30,7 @@ pub fn lowest(m: u32) -> usize
     requires { 0 < m }
     ensures { (result ≡ count_trailing_zeros 32 m) × (result < 32) × (m < 2 ^ 32) }
 {
-    wide32(u32::trailing_zeros(m))
+    m.trailing_zeros() as usize
 }
 
 // The word without its lowest set bit.

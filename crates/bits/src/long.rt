@@ -1,17 +1,9 @@
-// Words of 64 bits.
+// Words of 64 bits. What stands here for words of 32 bits too is no generic function: std has no trait over both whose laws speak of bits, and
+// one of our own would have each body once for either.
 ghost use Rattle.std.specs.Prelude.{◌≡◌, true, ◌-◌, ◌/◌, ◌%◌, ◌^◌, ◌≤◌, ◌<◌};
 ghost use Rattle.std.specs.Int.Bits.{bit_or};
 ghost use Rattle.std.specs.Int.Count.{count_trailing_zeros};
 ghost use Rattle.bits.specs.Bits.{has, replace_bit};
-
-use crate::wide32;
-
-// A word that is read from an array; through a call the proof knows its bound.
-pub fn word(x: u64) -> u64
-    ensures { (result ≡ x) × (result < 2 ^ 64) }
-{
-    x
-}
 
 // A bit, as 0 or 1.
 pub fn bit(m: u64, c: usize) -> u64
@@ -45,7 +37,7 @@ pub fn low_bits(n: usize) -> u64
 pub fn low_zeros(m: u64) -> usize
     ensures { (result ≡ count_trailing_zeros 64 m) × (result ≤ 64) }
 {
-    wide32(u64::trailing_zeros(m))
+    m.trailing_zeros() as usize
 }
 
 // Whether a bit is set.

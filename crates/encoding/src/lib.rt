@@ -92,22 +92,3 @@ pub struct AtomTable {
     pub codes: [u32; ATOMS],
     pub index: [u16; CODES],
 }
-
-// A word, or a byte, as a wider number; through a call the proof knows its bound.
-pub fn wide(x: u16) -> usize
-    ensures { (result ≡ x) × (result < 65536) }
-{
-    x as usize
-}
-
-pub fn wide8(x: u8) -> usize
-    ensures { (result ≡ x) × (result < 256) }
-{
-    x as usize
-}
-
-pub fn widened(x: u8) -> u16
-    ensures { (result ≡ x) × (result < 256) }
-{
-    x as u16
-}

@@ -1,6 +1,6 @@
 -- `without_lowest` meets its contract: the lowest bit is at most the word. Assumes nothing.
-use Prim.Native.Nat.{ℕ, ◌-◌, ◌*◌, ◌%◌, ◌^◌, ◌≤◌, ◌<◌}
-use mathlib.Core.Path.{◌≡◌, ap}
+use Prim.Native.Nat.{ℕ, ◌*◌, ◌%◌, ◌^◌, ◌≤◌, ◌<◌}
+use mathlib.Core.Path.{◌≡◌}
 use native.Mathlib.Omega.{arith}
 use lib.Count.{count_trailing_zeros}
 use borrow.Author.Rules.{rules}
@@ -13,14 +13,5 @@ shifted m c p l e =
     let exact : (1 * 2 ^ c) % 2 ^ 32 ≡ 2 ^ c = one_shifted 32 c (omega arith) in
     (omega arith, exact, rw (exact, e) a)
 
-pub overflow_cast-result : goal.overflow_cast-result
-overflow_cast-result c = omega (arith, (shifted c.args.m c.args.c c.requires.0 (search rules) c.requires.1).0)
-
-pub overflow_shl-result : goal.overflow_shl-result
-overflow_shl-result c = omega (arith, (shifted c.args.m c.args.c c.requires.0 (search rules) c.requires.1).0)
-
 pub overflow_sub-result : goal.overflow_sub-result
 overflow_sub-result c = (shifted c.args.m c.args.c c.requires.0 (search rules) c.requires.1).2
-
-pub returns : goal.returns
-returns c = ap (λ (x : ℕ). c.args.m - x) (shifted c.args.m c.args.c c.requires.0 (search rules) c.requires.1).1

@@ -1,10 +1,6 @@
 -- `long::replace_bit` meets its contract. Assumes nothing.
-use lib.Bits.{and_le_l}
 use Rattle.bits.specs.Bits.{replace_bit, one_shifted, bit_shifted}
 use Rattle.bits.proofs.long.replace_bit.Goals as goal
-
-pub overflow_sub-result : goal.overflow_sub-result
-overflow_sub-result c = and_le_l _ _
 
 pub returns : goal.returns
 unfolding replace_bit

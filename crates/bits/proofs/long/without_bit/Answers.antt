@@ -1,6 +1,6 @@
 -- `long::without_bit` meets its contract: a word that has a bit is at least that. Assumes nothing.
-use Prim.Native.Nat.{ℕ, ◌-◌, ◌*◌, ◌%◌, ◌^◌, ◌≤◌, ◌<◌}
-use mathlib.Core.Path.{◌≡◌, ap}
+use Prim.Native.Nat.{ℕ, ◌*◌, ◌%◌, ◌^◌, ◌≤◌, ◌<◌}
+use mathlib.Core.Path.{◌≡◌}
 use mathlib.Core.Bool.{true}
 use Rattle.bits.specs.Bits.{has, has-taken, one_shifted}
 use Rattle.bits.proofs.long.without_bit.Goals as goal
@@ -10,6 +10,3 @@ at_most m c l h = rw (one_shifted 64 c l) (has-taken c c m h).0
 
 pub overflow_sub-result : goal.overflow_sub-result
 overflow_sub-result c = at_most c.args.m c.args.c c.requires.0 c.requires.1
-
-pub returns : goal.returns
-returns c = ap (λ (x : ℕ). c.args.m - x) (one_shifted 64 c.args.c c.requires.0)

@@ -3,9 +3,6 @@ use Rattle.std.proofs.Common.{refl, arith, rules}
 use Rattle.bits.proofs.SetTurns.{none-here, first-here}
 use Rattle.bits.proofs.sets.first_between.Goals as goal
 
-pub overflow_add-c : goal.overflow_add-c
-overflow_add-c c = omega (arith, c.low_zeros.ensures.1)
-
 pub returns-then-c-end : goal.returns-then-c-end
 returns-then-c-end c =
     let at = c.loop-i.invariant in
