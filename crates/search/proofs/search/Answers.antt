@@ -2,12 +2,15 @@
 -- clauses. Assumes nothing.
 use Rattle.std.proofs.Common.{arith}
 use Rattle.counters.specs.CounterLaws.{counters-none}
+use Rattle.rules.specs.RuleLaws.{rule-keeps}
 use Rattle.machine.specs.StepNeeds.{units-fit, rules-and-index}
 use Rattle.machine.specs.Loading.{start_run, loaded-running, loaded-stepping, loaded-ends}
 use Rattle.search.proofs.search.Goals as goal
 
 pub users_of-users-requires : goal.users_of-users-requires
-users_of-users-requires c = (rules-and-index _ _ _ _ _ (loaded-running c.requires.0 _ c.args.budget _ _ c.requires.1 (omega arith))).0
+users_of-users-requires c =
+    let fits = (rules-and-index _ _ _ _ _ (loaded-running c.requires.0 _ c.args.budget _ _ c.requires.1 (omega arith))).0 in
+    λ r l. rule-keeps _ _ _ r fits l
 
 pub enter_all-requires : goal.enter_all-requires
 unfolding start_run
