@@ -1,9 +1,6 @@
 -- Step A in the code's terms: the loop over the clauses that ask. Assumes nothing.
-use Prim.Native.Nat.{ℕ, suc, ◌+◌, ◌-◌, ◌≤◌, ◌<◌}
-use mathlib.Core.Path.{◌≡◌, refl}
-use mathlib.Core.List.{List}
-use native.Mathlib.Omega.{arith}
-use lib.ListN.{get_or}
+use Rattle.std.specs.Prelude.{ℕ, suc, ◌+◌, ◌-◌, ◌≤◌, ◌<◌, ◌≡◌, List, get_or}
+use Rattle.std.proofs.Common.{arith}
 use Rattle.encoding.specs.Values.{Values}
 use Rattle.encoding.specs.ArrayLaws.{get_d-rising}
 use Rattle.units.specs.Units.{act_at, act_from, ClausesFit}
@@ -36,16 +33,13 @@ module _ (values : Values) (starts literals heads : List ℕ) (given goals : ℕ
           let g : c + 1 ≡ suc c = omega arith in
           cc
 
-      act-hit : a ≡ Conflict → Conflict ≡ x
+      pub act-hit : a ≡ Conflict → Conflict ≡ x
       unfolding act_from
       act-hit e = let f : n - c ≡ suc (n - (c + 1)) = omega arith in cc
 
-      act-hit-force : (w : ℕ) → a ≡ Force w → Force w ≡ x
+      pub act-hit-force : (w : ℕ) → a ≡ Force w → Force w ≡ x
       unfolding act_from
       act-hit-force w e = let f : n - c ≡ suc (n - (c + 1)) = omega arith in cc
-
-      pub act-found : (a ≡ Nothing → ⊥) → a ≡ x
-      act-found some = elim a as (λ b. a ≡ b → b ≡ x) [ Conflict ↦ λ e. act-hit e | Force w ↦ λ e. act-hit-force w e | Nothing ↦ λ e. absurd (some e) ] refl
 
     pub act-end : n ≤ c → Nothing ≡ x
     unfolding act_from

@@ -1,15 +1,16 @@
 -- What a clause that asks does, in the code's terms: its words, the loop over them, and what its number says. Assumes nothing.
 use Rattle.std.specs.Prelude.{ℕ, ◌+◌, ◌≤◌, ◌<◌, ◌≡◌, refl, Bool, true, false, Option, Some, None, MatchOption, List, [], ◌∷◌, length, get_or}
 use Rattle.std.proofs.Common.{sym, ◌∙◌, arith, cond, ltb, ltb-true, ltb-false}
+use Rattle.std.specs.Bool.{then_some}
 use Rattle.std.specs.List.{position_or_len}
 use Rattle.theory.specs.Tests.{by-test}
-use Rattle.encoding.specs.CountLaws.{by_order}
 use Rattle.encoding.specs.Values.{Values, false_word, true_word}
 use Rattle.units.specs.Units.{clause_at, may_set, not_false_words, act_on_words, act_at, ClausesFit}
+use Rattle.units.specs.declared.UnitAct.{UnitAct}
 use Rattle.units.specs.declared.UnitAct.TheVariants.{Conflict, Force, Nothing}
 use Rattle.counters.specs.Counters.{read_whole}
 use Rattle.counters.specs.ClauseWords.{ClauseWords}
-use Rattle.counters.specs.ByNumber.{first_open, open_word, may_set_at, zero_left, one_left, some-left, may-by-place}
+use Rattle.counters.specs.ByNumber.{first_open, open_word, may_set_at, zero_left, one_left, may-by-place}
 
 -- ── the first word that is not false ──
 
@@ -36,38 +37,41 @@ module _ (values : Values) where
 
 -- ── what it asks for ──
 
+pub act-conflict : (values : Values) (starts literals heads : List ℕ) (given goals c : ℕ) → read_whole values (clause_at starts literals c) ≡ 0
+    → Conflict ≡ act_at values starts literals heads given goals c
+unfolding act_at act_on_words
+act-conflict values starts literals heads given goals c z = cc (zero_left values (clause_at starts literals c) z)
+
 module _ {starts literals heads : List ℕ} {given : ℕ} (c : ℕ) (fit : ClausesFit starts literals heads given (c + 1)) (values : Values)
-    (few : read_whole values (clause_at starts literals c) ≤ 1) {words : List ℕ} (its : ClauseWords starts literals c words) (goals : ℕ) where
+    (one : read_whole values (clause_at starts literals c) ≡ 1) {words : List ℕ} (its : ClauseWords starts literals c words) where
   abbrev clause : List ℕ
   clause = clause_at starts literals c
 
-  pub act-conflict : first_open values words ≡ length words → Conflict ≡ act_at values starts literals heads given goals c
-  unfolding act_at act_on_words
-  act-conflict h =
-      let none = rw its.is at h in
-      by_order (read_whole values clause) 0
-      (λ b. cc (zero_left values clause (omega arith)))
-      (λ b. absurd (omega (arith, none, (one_left values clause (omega arith)).0)))
+  pub one-open : first_open values words ≡ length words → ⊥
+  one-open h = let none = rw its.is at h in omega (arith, none, (one_left values clause one).0)
 
   -- its one word that is not false stands at a place
-  module _ {before : ℕ} (place : first_open values words ≡ before) (inside : before < length words) {r : Bool}
+  module _ (goals : ℕ) {before : ℕ} (place : first_open values words ≡ before) {r : Bool}
       (may : r ≡ may_set_at heads given goals c (get_or words before 0) before) where
+    abbrev act : UnitAct
+    act = act_at values starts literals heads given goals c
+
     found : first_open values clause ≡ before
     found = rw its.is at place
 
-    within : first_open values clause < length clause
-    within = rw its.is at (let l : first_open values words < length words = omega arith in l)
-
     alone : (before < length clause) × (not_false_words values clause ≡ get_or clause before 0 ∷ []) × (true_word values (get_or clause before 0) ≡ false)
-    alone = rw found at (one_left values clause (omega (arith, some-left values clause within)))
+    alone = rw found at (one_left values clause one)
 
     may-is : may_set values starts literals heads given goals c (get_or clause before 0) ≡ r
-    may-is = (rw found at (may-by-place values goals c (get_or clause before 0) fit within)) ∙ sym (rw its.is at may)
+    may-is = (rw found at (may-by-place values goals c (get_or clause before 0) fit (one_left values clause one).0)) ∙ sym (rw its.is at may)
 
-    pub act-force : r ≡ true → Force (get_or words before 0) ≡ act_at values starts literals heads given goals c
+    forces : r ≡ true → act ≡ Force (get_or words before 0)
     unfolding act_at act_on_words
-    act-force h = rw its.is (cc (alone.1, alone.2, may-is))
+    forces h = rw its.is (cc (alone.1, alone.2, may-is))
 
-    pub act-not : r ≡ false → Nothing ≡ act_at values starts literals heads given goals c
+    rests : r ≡ false → act ≡ Nothing
     unfolding act_at act_on_words
-    act-not h = cc (alone.1, alone.2, may-is)
+    rests h = cc (alone.1, alone.2, may-is)
+
+    pub act-forced : {o : Option ℕ} → o ≡ then_some r (get_or words before 0) → MatchOption o (act ≡ Nothing) (λ w. act ≡ Force w)
+    act-forced is = by-test r (λ t. rw (is, t) (forces t)) (λ t. rw (is, t) (rests t))

@@ -1,8 +1,6 @@
 -- Step A over the clauses that ask: the next of them, and that the first clause that acts is one of them. Assumes nothing.
-use Prim.Native.Nat.{ℕ, zero, suc, ◌+◌, ◌-◌, ◌≤◌, ◌<◌}
-use Rattle.std.specs.Prelude.{◌≡◌, true, false, List, leb, get_or}
-use Rattle.std.proofs.Common.{sym, ◌∙◌, lt-ltb, leb-true, leb-false}
-use native.Mathlib.Omega.{arith}
+use Rattle.std.specs.Prelude.{◌≡◌, true, false, List, leb, get_or, ℕ, zero, suc, ◌+◌, ◌-◌, ◌≤◌, ◌<◌}
+use Rattle.std.proofs.Common.{sym, ◌∙◌, lt-ltb, leb-true, leb-false, arith}
 use Rattle.bits.specs.Bits.{among}
 use Rattle.bits.specs.Sets.{NoneBetween}
 use Rattle.encoding.specs.CountLaws.{by_order}

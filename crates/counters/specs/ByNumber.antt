@@ -1,14 +1,10 @@
 -- What a clause asks for, by its number. At 2 or more it rests. At 0 it is a conflict. At 1 the first word that is not false is the only one and not
 -- true, and its place tells whether the clause may set it. Assumes nothing.
-use Prim.Native.Nat.{ℕ, zero, suc, ◌+◌, ◌-◌, ◌*◌, ◌≤◌, ◌<◌}
-use Rattle.std.specs.Prelude.{◌≡◌, Bool, true, false, not, ◌&&◌, ◌||◌, leb, take, drop}
+use Rattle.std.specs.Prelude.{◌≡◌, Bool, true, false, not, ◌&&◌, ◌||◌, leb, take, drop, ℕ, zero, suc, ◌+◌, ◌-◌, ◌*◌, ◌≤◌, ◌<◌, List, [], ◌∷◌}
 use Rattle.std.proofs.Math.Path.{refl, sym, ap}
-use Rattle.std.proofs.Common.{◌∙◌, take-take}
-use mathlib.Core.List.{List, [], ◌∷◌}
-use native.Mathlib.Omega.{arith}
+use Rattle.std.proofs.Common.{◌∙◌, take-take, arith, eqb-true, ltb-false, le-leb}
 use Rattle.std.proofs.Math.Dec.{eqb, ltb, leb-suc-zero, leb-suc-suc}
 use Rattle.std.proofs.Math.ListN.{length, get_or}
-use borrow.Author.Tests.{eqb-true, ltb-false, le-leb}
 use Rattle.definitions.specs.Lists.{all, filter, distinct}
 use Rattle.theory.specs.Tests.{by-test, true-and-false}
 use Rattle.theory.specs.ListLaws.{filter-in, filter-all, filter-both}
@@ -82,25 +78,6 @@ module _ (values : Values) where
       let swapped = filter-distinct eqb eqb-true open_word ws in
       let (rest, inside, e) = open-first ws (omega (arith, ap length swapped, distinct-length eqb (filter open_word ws))) in
       (_, inside, sym swapped ∙ ap (distinct eqb) e)
-
-  -- where there is one, some are left
-  open-some : (ws : List ℕ) → first_open values ws < length ws → 1 ≤ length (filter open_word ws)
-  unfolding first_open filter
-  open-some [] l = absurd (omega arith)
-  open-some (w ∷ ws) l =
-      by-test (false_word values w)
-      (λ f. let less = rw (f, first_open) at l in rw (f, filter) (open-some ws (omega arith)))
-      (λ f. rw (f, filter) (omega arith))
-
-  open-left : (ws : List ℕ) → first_open values ws < length ws → (rest : List ℕ) × (not_false_words values ws ≡ get_or ws (first_open values ws) 0 ∷ rest)
-  unfolding not_false_words distinct
-  open-left ws l =
-      let swapped = filter-distinct eqb eqb-true open_word ws in
-      let (rest, inside, e) = open-first ws (open-some ws l) in
-      (_, sym swapped ∙ ap (distinct eqb) e)
-
-  pub some-left : (ws : List ℕ) → first_open values ws < length ws → 1 ≤ read_whole values ws
-  some-left ws l = let (rest, e) = open-left ws l in omega (arith, number-left ws, ap length e)
 
   -- the words before it are false, and it is not
   first-false : (ws : List ℕ) (n : ℕ) → first_open values ws < length ws → all (false_word values) (take n ws) ≡ leb n (first_open values ws)

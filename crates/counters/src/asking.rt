@@ -1,6 +1,7 @@
 // Step A over the clauses that ask.
 ghost use Rattle.std.specs.Prelude.{◌≡◌, List, ℕ, ◌+◌, ◌≤◌, ◌<◌, MatchOption, get_or, length};
 ghost use Rattle.units.specs.Units.{clause_at, act_at, act_from, ClausesFit};
+ghost use Rattle.units.specs.declared.UnitAct.TheVariants.{Force, Nothing};
 ghost use Rattle.counters.specs.Counters.{read_whole, counters, counters_of};
 ghost use Rattle.counters.specs.ByNumber.{first_open, may_set_at};
 
@@ -19,40 +20,48 @@ fn first_open(values: &Values, clause: &[u16]) -> Option<usize>
     clause.iter().position(|w| !values::is_false(values, *w))
 }
 
-// Whether clause c may set a literal that so many false ones stand before: where the negated heads are among these, all heads are true.
-#[tactic(auto, unfolding(crate::specs::ByNumber::may_set_at))]
-fn may_set(store: &ClauseStore, given: usize, goals: usize, c: usize, w: u16, before: usize) -> bool
-    requires { (goals ≤ 256) × (c < given + 512) }
-    ensures { result ≡ may_set_at store.now.heads given goals c w before }
-{
-    if usize::from(w) < 2 * goals {
-        return true;
-    }
-    if c < given {
-        return false;
-    }
-    usize::from(store.heads[c - given]) <= before
+// The clauses as step A reads them: under the values, with the numbers of goal clauses and of goal atoms.
+#[derive(Clone, Copy, Drop)]
+struct Clauses<'a> {
+    values: &'a Values,
+    store: &'a ClauseStore,
+    given: usize,
+    goals: usize,
+    ghost few_goals: { goals ≤ 256 },
 }
 
-// What clause c asks for, where at most one of its literals is not false: with none it is a conflict, and one is unset.
-fn act_at(values: &Values, store: &ClauseStore, given: usize, goals: usize, c: usize) -> UnitAct
-    requires { (goals ≤ 256) × ClausesFit store.now.starts store.now.literals store.now.heads given (c + 1)
-        × (read_whole values.now (clause_at store.now.starts store.now.literals c) ≤ 1) }
-    ensures { result ≡ act_at values.now store.now.starts store.now.literals store.now.heads given goals c }
-{
-    let clause = store.clause(c);
-    let Some(before) = first_open(values, clause) else {
-        return UnitAct::Conflict;
-    };
-    let w = clause[before];
-    if may_set(store, given, goals, c, w, before) {
-        return UnitAct::Force(w);
+impl Clauses<'_> {
+    // Whether clause c may set a literal that so many false ones stand before: where the negated heads are among these, all heads are true.
+    #[tactic(auto, unfolding(crate::specs::ByNumber::may_set_at))]
+    fn may_set(&self, c: usize, w: u16, before: usize) -> bool
+        requires { c < self.now.given + 512 }
+        ensures { result ≡ may_set_at self.now.store.now.heads self.now.given self.now.goals c w before }
+    {
+        if usize::from(w) < 2 * self.goals {
+            return true;
+        }
+        if c < self.given {
+            return false;
+        }
+        usize::from(self.store.heads[c - self.given]) <= before
     }
-    UnitAct::Nothing
+
+    // The literal that clause c sets, where one alone of its literals is not false: it is unset.
+    fn forced(&self, c: usize) -> Option<u16>
+        requires { ClausesFit self.now.store.now.starts self.now.store.now.literals self.now.store.now.heads self.now.given (c + 1)
+            × (read_whole self.now.values.now (clause_at self.now.store.now.starts self.now.store.now.literals c) ≡ 1) }
+        ensures { let act = act_at self.now.values.now self.now.store.now.starts self.now.store.now.literals self.now.store.now.heads self.now.given self.now.goals c in
+            MatchOption result (act ≡ Nothing) (λ w. act ≡ Force w) }
+    {
+        let clause = self.store.clause(c);
+        let before = first_open(self.values, clause)?;
+        let w = clause[before];
+        self.may_set(c, w, before).then_some(w)
+    }
 }
 
 impl Counters {
-    // Step A: the first clause that is a conflict or sets its one unset literal.
+    // Step A: the first clause that is a conflict or sets its one unset literal. Its number tells which: at 0 all its literals are false.
     pub fn next_act(
         &self,
         values: &Values,
@@ -66,12 +75,21 @@ impl Counters {
             ≡ counters_of values.now (λ c. clause_at store.now.starts store.now.literals c) clauses)) }
         ensures { result ≡ act_from values.now store.now.starts store.now.literals store.now.heads given goals 0 clauses }
     {
+        let read = Clauses {
+            values,
+            store,
+            given,
+            goals,
+        };
         let mut from = 0;
         while let Some(c) = sets::first_between(&self.asking, from, clauses) {
-            match act_at(values, store, given, goals, c) {
-                UnitAct::Nothing => from = c + 1,
-                act => return act,
+            if self.counts[c] == 0 {
+                return UnitAct::Conflict;
             }
+            if let Some(w) = read.forced(c) {
+                return UnitAct::Force(w);
+            }
+            from = c + 1;
         }
         UnitAct::Nothing
     }

@@ -1,5 +1,5 @@
 -- `passes::over_word` meets its contract, bit by bit from the lowest. Assumes nothing.
-use native.Mathlib.Omega.{arith}
+use Rattle.std.proofs.Common.{arith}
 use Rattle.counters.specs.Passes.{word-start, word_end, word_in, word_fits, word-turn}
 use Rattle.counters.proofs.passes.over_word.Goals as goal
 
