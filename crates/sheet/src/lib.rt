@@ -91,11 +91,10 @@ pub fn read_sheet(
     starts[0] = 0;
     while from < sheet.len() {
         let end = rows::line_end(sheet, from);
-        let LineStart { kind, filled } = match rows::read_line(sheet, from, end, before, &mut row) {
-            Ok(start) => start,
-            Err(question) => return Err(refusal(question, line)),
-        };
-        s = match line_of_kind(
+        let LineStart { kind, filled } = rows::read_line(
+            sheet, from, end, before, &mut row,
+        ).map_err(|question| refusal(question, line))?;
+        s = line_of_kind(
             kind,
             &row[..filled],
             s,
@@ -106,10 +105,8 @@ pub fn read_sheet(
             literals,
             table,
             index,
-        ) {
-            Ok(sizes) => sizes,
-            Err(question) => return Err(refusal(question, line)),
-        };
+        )
+        .map_err(|question| refusal(question, line))?;
         before = Some(kind);
         from = end + 1;
         line += 1;
