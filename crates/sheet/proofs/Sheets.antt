@@ -159,7 +159,8 @@ module _ (start : Arrays) (empty : start.index ≡ empty_index) (wide : length s
   ends-yes (yes d) k r after h s e = let g = h.1 in (d, refl, h.0, (cc), h.2)
 
 module _ {sheet : List ℕ} {start held : Arrays} {s : Sizes} {before from line : ℕ} (reached : ReadUpTo sheet start held s before from line) where
-  pub reached-ready : Ready s held.arities held.index
+  pub reached-ready : Ready s (take s.symbols held.arities) held.index
+  unfolding sizes_of
   reached-ready =
       rw (reached.sizes, reached.holds)
       (draft-ready start reached.empty reached.wide reached.draft reached.started)

@@ -25,7 +25,7 @@ returns-in_err-kind c =
     record { more = c.loop-from-test.true; ends = c.line_end-end.ensures; asked = c.read_line.ensures.reads }
     in
     let (q, is, same) = mapped-err c.read_line.result c.map_err.result c.loop-from.line _ c.map_err.ensures.cases (λ q d h. grind (arith, common_steps)) c.in_err-kind.was in
-    rw (start-stop c.loop-from.invariant line is, handed _ _ c.from_residual.ensures.1) (ap Err same)
+    rw (start-stop c.loop-from.invariant line {q = q} is, handed _ _ c.from_residual.ensures.1) (ap Err same)
 
 pub line_of_kind-requires : goal.line_of_kind-requires
 line_of_kind-requires c = reached-ready c.loop-from.invariant
