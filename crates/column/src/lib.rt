@@ -140,7 +140,8 @@ fn put_column(field: &mut [u8], negative: bool, size: u64)
     field[..left].fill(b' ');
 }
 
-// One column of 4 bytes. A sign takes a place from the digits; of a longer number the last digits stand.
+// One column of 4 bytes. A sign takes a place from the digits; of a longer number the last digits stand. It is lent the room with the place,
+// not the column's slice, since its contract says that nothing else of the room changes; so is the next one.
 pub fn put_narrow(room: &mut [u8], at: usize, negative: bool, size: u16)
     requires { (at + 4 ≤ length room.old) × (negative ≡ true → size < 1000) }
     ensures { room.new ≡ sets room.old at (field_bytes (narrow (record { negative = negative; size = size }))) }
