@@ -19,7 +19,7 @@ use encoding::{SYMBOLS, values};
 use machine::Searched;
 use writer::Writer;
 
-// A constant of an atom, by its place from 0.
+// A constant of an atom, by its place from 0. By hand, as its symbol below: Atom::of asks that the code is below CODES, which isn't known here.
 #[tactic(auto, unfolding(crate::specs::Lines::code_constant))]
 fn constant(code: u32, i: usize) -> u16
     ensures { result ≡ code_constant code i }
