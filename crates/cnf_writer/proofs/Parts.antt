@@ -1,8 +1,5 @@
 -- The text in parts: what one call writes, and what is left to the calls behind it. Assumes nothing.
-use Prim.Native.Nat.{ℕ, ◌+◌, ◌-◌, ◌/◌, ◌%◌, ◌≤◌, ◌<◌}
-use Rattle.std.specs.Prelude.{◌≡◌, refl, Bool, true, false, eqb, length, get_or, take, drop}
-use Rattle.std.proofs.Common.{append_assoc}
-use mathlib.Core.List.{List, [], ◌∷◌, ◌++◌}
+use Rattle.std.proofs.Common.{◌≡◌, refl, ℕ, ◌+◌, ◌-◌, ◌/◌, ◌%◌, ◌≤◌, ◌<◌, Bool, true, false, eqb, List, [], ◌∷◌, ◌++◌, length, get_or, take, drop, append_assoc}
 use Rattle.definitions.specs.Lists.{joined, up_from}
 use Rattle.definitions.specs.Listing.{decimals, signed_decimals}
 use Rattle.definitions.specs.Text.{bytes}

@@ -44,7 +44,7 @@ fn put_literal(out: &mut Writer, word: u16)
     out.byte(b' ');
 }
 
-// The line of a clause: its literals, 0 and LF.
+// The line of a clause: its literals, 0 and LF. That the clause doesn't end before it starts isn't asked, so its words are no slice here.
 fn put_clause(out: &mut Writer, store: &ClauseStore, c: usize)
     requires place { c < 577 }
     requires inside { get_or store.now.starts (c + 1) 0 ≤ length store.now.literals }

@@ -2,6 +2,7 @@
 #![tactic(auto)]
 
 ghost use Rattle.std.specs.Prelude.{◌+◌, ◌<◌, ◌≤◌, ◌≡◌, true, [], ◌∷◌, length, take, drop, IfErr};
+ghost use Rattle.std.proofs.lemmas.List.Edits.{sets};
 ghost use Rattle.definitions.specs.declared.Question.TheVariants.{Columns};
 ghost use Rattle.definitions.specs.Sheet.{digits, natural, decimal};
 ghost use Rattle.definitions.specs.Listing.{decimals, signed_decimals, field_bytes, narrow, wide};
@@ -139,19 +140,19 @@ fn put_column(field: &mut [u8], negative: bool, size: u64)
     field[..left].fill(b' ');
 }
 
-// A column of 4 bytes. A sign takes a place from the digits; of a longer number the last digits stand.
-pub fn put_narrow(field: &mut [u8], negative: bool, size: u16)
-    requires width { length field.old ≡ 4 }
-    requires sign { negative ≡ true → size < 1000 }
-    ensures { field.new ≡ field_bytes (narrow (record { negative = negative; size = size })) }
+// One column of 4 bytes. A sign takes a place from the digits; of a longer number the last digits stand. It is lent the room with the place,
+// not the column's slice, since its contract says that nothing else of the room changes; so is the next one.
+pub fn put_narrow(room: &mut [u8], at: usize, negative: bool, size: u16)
+    requires { (at + 4 ≤ length room.old) × (negative ≡ true → size < 1000) }
+    ensures { room.new ≡ sets room.old at (field_bytes (narrow (record { negative = negative; size = size }))) }
 {
-    put_column(field, negative, u64::from(size));
+    put_column(&mut room[at..at + 4], negative, u64::from(size));
 }
 
-// A column of 12 bytes.
-pub fn put_wide(field: &mut [u8], n: u64)
-    requires { length field.old ≡ 12 }
-    ensures { field.new ≡ field_bytes (wide n) }
+// One column of 12 bytes.
+pub fn put_wide(room: &mut [u8], at: usize, n: u64)
+    requires { at + 12 ≤ length room.old }
+    ensures { room.new ≡ sets room.old at (field_bytes (wide n)) }
 {
-    put_column(field, false, n);
+    put_column(&mut room[at..at + 12], false, n);
 }

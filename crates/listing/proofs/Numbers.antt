@@ -1,9 +1,6 @@
 -- Columns of 4 bytes one behind the other, and how many digits a number has. Assumes nothing.
-use Rattle.std.proofs.Common.{◌≡◌, ap, ◌∙◌, ℕ, suc, false, ◌+◌, ◌-◌, ◌/◌, ◌≤◌, ◌<◌, List, [], ◌∷◌, ◌++◌, map, length, get_or, drop, length-append, append_assoc, append-nil, arith}
-use Rattle.std.proofs.Math.Seq.{drop-cons}
-use Rattle.std.proofs.lemmas.List.{drop-drop}
-use Rattle.std.proofs.lemmas.List.Edits.{sets, sets-eq}
-use borrow.Rule.Slice.PartMut.{put_mid}
+use Rattle.std.proofs.Common.{◌≡◌, ap, ◌∙◌, ℕ, suc, false, ◌+◌, ◌/◌, ◌≤◌, ◌<◌, List, [], ◌∷◌, ◌++◌, map, length, get_or, drop, length-append, append-nil, arith}
+use Rattle.std.proofs.Math.Seq.{drop-cons, drop-length}
 use Rattle.std.specs.Prelude.{ltb}
 use lib.ListN.{drop_of_length-le}
 use Rattle.definitions.specs.Lists.{joined}
@@ -58,12 +55,3 @@ module _ (n : ℕ) where
       let same : decimals (length field) n ≡ decimals 3 n = ap (λ (w : ℕ). decimals w n) e ∙ decimals-exact 3 n in
       let none : left ≡ 0 = omega (arith, put.count, ap length same) in
       put.stored ∙ rw (none, same, sets-front field (decimals 3 n) (omega arith), ← e, drop-length, append-nil)
-
--- ── bytes ──
-
--- bytes that are copied into their part of the room
-pub part-put : (room bytes part : List ℕ) (at : ℕ) → part ≡ bytes → at + length bytes ≤ length room
-    → put_mid at (at + length bytes - at) room part ≡ sets room at bytes
-part-put room bytes part at e fits =
-    let k : at + length bytes - at ≡ length bytes = omega arith in
-    rw (e, k, drop-drop (length bytes) at room, sets-eq bytes room at fits, append_assoc)

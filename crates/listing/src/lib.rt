@@ -19,7 +19,7 @@ use encoding::{SYMBOLS, values};
 use machine::Searched;
 use writer::Writer;
 
-// A constant of an atom, by its place from 0.
+// A constant of an atom, by its place from 0. By hand, as its symbol below: Atom::of asks that the code is below CODES, which isn't known here.
 #[tactic(auto, unfolding(crate::specs::Lines::code_constant))]
 fn constant(code: u32, i: usize) -> u16
     ensures { result ≡ code_constant code i }
@@ -52,72 +52,6 @@ fn put_literal(out: &mut Writer, arities: &[u8; SYMBOLS], negative: bool, code: 
     put_constants(out, code, usize::from(arities[symbol]));
 }
 
-// The literals of a clause, by its words.
-fn put_literals(out: &mut Writer, searched: &Searched, words: &[u16])
-    requires words { (i : ℕ) → i < length words.now → get_or words.now i 0 < 512 }
-    requires room { HasRoom out.old (words_columns searched.now words.now) }
-    ensures { Writes out.old (words_columns searched.now words.now) out.new }
-{
-    for word in words {
-        let code = searched.codes[usize::from(*word / 2)];
-        put_literal(out, &searched.arities, *word % 2 == 1, code);
-    }
-}
-
-// The line of kind 6 of the n-th logged clause, from 0.
-fn put_logged(out: &mut Writer, searched: &Searched, n: usize)
-    requires listable { Listable searched.now }
-    requires inside { n < searched.now.ended.run.clauses - searched.now.given }
-    requires room { HasRoom out.old (logged_of searched.now n) }
-    ensures { Writes out.old (logged_of searched.now n) out.new }
-{
-    let words = searched.store.clause(searched.given + n);
-    let rule = u16::from(searched.store.numbers[n]);
-    out.numbers(&[6, rule, words.len() as u16]);
-    put_literals(out, searched, words);
-    out.byte(b'\n');
-}
-
-// The lines of kind 6, in the order of the log.
-fn put_log(out: &mut Writer, searched: &Searched)
-    requires listable { Listable searched.now }
-    requires room { HasRoom out.old (log_of searched.now) }
-    ensures { Writes out.old (log_of searched.now) out.new }
-{
-    for n in 0..searched.ended.run.clauses - searched.given {
-        put_logged(out, searched, n);
-    }
-}
-
-// The line of kind 7 of the atom at a position, if it is set.
-fn put_setting(out: &mut Writer, searched: &Searched, i: usize)
-    requires position { i < 256 }
-    requires room { HasRoom out.old (setting_of searched.now i) }
-    ensures { Writes out.old (setting_of searched.now i) out.new }
-{
-    if values::is_unset(&searched.values, i) {
-        return;
-    }
-    let negative = values::is_false(&searched.values, (2 * i) as u16);
-    out.numbers(&[7]);
-    put_literal(out, &searched.arities, negative, searched.codes[i]);
-    out.byte(b'\n');
-}
-
-// The lines of kind 7, in the order of the table, for UNKNOWN only: one for each set atom.
-fn put_settings(out: &mut Writer, searched: &Searched)
-    requires listable { Listable searched.now }
-    requires room { HasRoom out.old (settings_of searched.now) }
-    ensures { Writes out.old (settings_of searched.now) out.new }
-{
-    let Verdict::Unknown = searched.ended.verdict else {
-        return;
-    };
-    for i in 0..searched.ended.run.atoms {
-        put_setting(out, searched, i);
-    }
-}
-
 // Document 01's number of each answer.
 #[tactic(auto, unfolding(definitions::specs::Listing::answer_number))]
 pub fn number(v: Verdict) -> u16
@@ -131,19 +65,96 @@ pub fn number(v: Verdict) -> u16
     }
 }
 
-// The line of kind 5.
-fn put_counts(out: &mut Writer, searched: &Searched)
-    requires listable { Listable searched.now }
-    requires room { HasRoom out.old (counts_of searched.now) }
-    ensures { Writes out.old (counts_of searched.now) out.new }
-{
-    let run = searched.ended.run;
-    let answer = number(searched.ended.verdict);
-    let logged = (run.clauses - searched.given) as u16;
-    out.numbers(&[5, answer, run.atoms as u16, logged]);
-    out.count(u64::from(run.decisions));
-    out.count(run.conflicts);
-    out.byte(b'\n');
+// What is left of a search, with what its lines need of it.
+#[derive(Clone, Copy, Drop)]
+struct Listing<'a> {
+    searched: &'a Searched,
+
+    ghost listable: { Listable searched.now },
+}
+
+impl Listing<'_> {
+    // The literals of a clause, by its words.
+    fn put_literals(&self, out: &mut Writer, words: &[u16])
+        requires words { (i : ℕ) → i < length words.now → get_or words.now i 0 < 512 }
+        requires room { HasRoom out.old (words_columns self.now.searched.now words.now) }
+        ensures { Writes out.old (words_columns self.now.searched.now words.now) out.new }
+    {
+        for word in words {
+            let code = self.searched.codes[usize::from(*word / 2)];
+            put_literal(out, &self.searched.arities, *word % 2 == 1, code);
+        }
+    }
+
+    // The line of kind 6 of the n-th logged clause, from 0.
+    fn put_logged(&self, out: &mut Writer, n: usize)
+        requires inside { n < self.now.searched.now.ended.run.clauses - self.now.searched.now.given }
+        requires room { HasRoom out.old (logged_of self.now.searched.now n) }
+        ensures { Writes out.old (logged_of self.now.searched.now n) out.new }
+    {
+        let words = self.searched.store.clause(self.searched.given + n);
+        let rule = u16::from(self.searched.store.numbers[n]);
+        out.numbers(&[6, rule, words.len() as u16]);
+        self.put_literals(out, words);
+        out.byte(b'\n');
+    }
+
+    // The lines of kind 6, in the order of the log.
+    fn put_log(&self, out: &mut Writer)
+        requires { HasRoom out.old (log_of self.now.searched.now) }
+        ensures { Writes out.old (log_of self.now.searched.now) out.new }
+    {
+        for n in 0..self.searched.ended.run.clauses - self.searched.given {
+            self.put_logged(out, n);
+        }
+    }
+
+    // The line of kind 7 of the atom at a position, if it is set.
+    fn put_setting(&self, out: &mut Writer, i: usize)
+        requires position { i < 256 }
+        requires room { HasRoom out.old (setting_of self.now.searched.now i) }
+        ensures { Writes out.old (setting_of self.now.searched.now i) out.new }
+    {
+        if values::is_unset(&self.searched.values, i) {
+            return;
+        }
+        let negative = values::is_false(&self.searched.values, (2 * i) as u16);
+        out.numbers(&[7]);
+        put_literal(
+            out,
+            &self.searched.arities,
+            negative,
+            self.searched.codes[i],
+        );
+        out.byte(b'\n');
+    }
+
+    // The lines of kind 7, in the order of the table, for UNKNOWN only: one for each set atom.
+    fn put_settings(&self, out: &mut Writer)
+        requires { HasRoom out.old (settings_of self.now.searched.now) }
+        ensures { Writes out.old (settings_of self.now.searched.now) out.new }
+    {
+        let Verdict::Unknown = self.searched.ended.verdict else {
+            return;
+        };
+        for i in 0..self.searched.ended.run.atoms {
+            self.put_setting(out, i);
+        }
+    }
+
+    // The line of kind 5.
+    fn put_counts(&self, out: &mut Writer)
+        requires { HasRoom out.old (counts_of self.now.searched.now) }
+        ensures { Writes out.old (counts_of self.now.searched.now) out.new }
+    {
+        let run = self.searched.ended.run;
+        let answer = number(self.searched.ended.verdict);
+        let logged = (run.clauses - self.searched.given) as u16;
+        out.numbers(&[5, answer, run.atoms as u16, logged]);
+        out.count(u64::from(run.decisions));
+        out.count(run.conflicts);
+        out.byte(b'\n');
+    }
 }
 
 // The listing of a search that has ended, at the front of the room: how many bytes it has.
@@ -154,9 +165,10 @@ pub fn put_listing(room: &mut [u8], searched: &Searched) -> usize
         → Put room.old 0 (listed searched.now.ended.verdict s) result room.new }
 {
     let mut out = Writer::new(room);
-    put_counts(&mut out, searched);
-    put_log(&mut out, searched);
-    put_settings(&mut out, searched);
+    let listing = Listing { searched };
+    listing.put_counts(&mut out);
+    listing.put_log(&mut out);
+    listing.put_settings(&mut out);
     out.written()
 }
 

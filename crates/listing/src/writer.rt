@@ -53,9 +53,8 @@ impl<'a> Writer<'a> {
         requires fits { negative ≡ true → size < 1000 }
         ensures { Writes self.old (column_bytes (record { negative = negative; size = size } ∷ [])) self.new }
     {
-        let end = self.at + 4;
-        column::put_narrow(&mut self.room[self.at..end], negative, size);
-        self.at = end;
+        column::put_narrow(self.room, self.at, negative, size);
+        self.at += 4;
     }
 
     // Numbers without a sign, each in such a column.
@@ -73,9 +72,8 @@ impl<'a> Writer<'a> {
         requires { HasRoom self.old (field_bytes (wide n)) }
         ensures { Writes self.old (field_bytes (wide n)) self.new }
     {
-        let end = self.at + 12;
-        column::put_wide(&mut self.room[self.at..end], n);
-        self.at = end;
+        column::put_wide(self.room, self.at, n);
+        self.at += 12;
     }
 
     // A number with no blanks before it, three digits at most.
