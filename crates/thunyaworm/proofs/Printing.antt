@@ -1,9 +1,7 @@
 -- What is read of a sheet decides what is printed: the front that the buffer holds is all of it, or says already that it is too long.
 -- Assumes nothing.
-use Rattle.std.proofs.Common.{ℕ, ◌+◌, ◌≤◌, ◌<◌, ◌≡◌, List, [], ◌++◌, Option, None, Some, refl, sym, ap, ◌∙◌, subst, arith, leb, leb-true, leb-false, length, take, length-take-le, length-append, append-nil}
-use lib.Seq.{take-append-add, take-append-le}
+use Rattle.std.proofs.Common.{ℕ, ◌≤◌, ◌<◌, ◌≡◌, List, [], ◌++◌, Option, None, Some, refl, sym, ap, ◌∙◌, subst, arith, leb, leb-true, leb-false, length, length-append, append-nil}
 use borrow.Author.Tests.{lt-leb}
-use borrow.Rule.Slice.PartMut.{put_mid, post_of}
 use Rattle.std.specs.Io.KnownBytes.{Appends, Consumes, IsAtEnd}
 use Rattle.definitions.specs.Bounds.{sheet_bytes}
 use Rattle.definitions.specs.Questions.{refused, read}
@@ -11,17 +9,6 @@ use Rattle.definitions.specs.Call.{printed_of, listing_of, answered, printed}
 use Rattle.definitions.specs.Export.{printed_cnf, export_of}
 use Rattle.theory.specs.Tests.{by-test}
 use Rattle.thunyaworm.specs.Outputs.{Outputs}
-
--- ── the buffer ──
-
--- a part that is read behind the front makes a longer front
-pub filled-more : (a n k : ℕ) (old part : List ℕ) → a ≤ length old → n ≤ length part → take a old ++ take n part ≡ take (a + n) (put_mid a k old part)
-filled-more a n k old part within fits =
-    let front = take a old in
-    let after = post_of a k old in
-    ap (λ l. front ++ l) (sym (take-append-le n part after fits))
-    ∙ sym (take-append-add front (part ++ after) n)
-    ∙ ap (λ m. take (m + n) (put_mid a k old part)) (length-take-le a old within)
 
 -- ── the sheet ──
 

@@ -100,12 +100,13 @@ fn count_words(rt: &impl Env) -> usize {
 
 // What the words order.
 fn order(rt: &impl Env) -> Option<Order> {
-    let mut words = [[0u8; WORD_BUFFER]; 3];
-    let [first, second, third] = &mut words;
+    let mut first = [0u8; WORD_BUFFER];
+    let mut second = [0u8; WORD_BUFFER];
+    let mut third = [0u8; WORD_BUFFER];
     let lent = [
-        fetch(rt, 1, first),
-        fetch(rt, 2, second),
-        fetch(rt, 3, third),
+        fetch(rt, 1, &mut first),
+        fetch(rt, 2, &mut second),
+        fetch(rt, 3, &mut third),
     ];
     command::order_of(count_words(rt), lent)
 }
