@@ -96,9 +96,8 @@ def numbered_kinds(file, text):
 
 def flags(function):
     """1d: a flag with the value that it is about beside it."""
-    names = [p.split(':')[0].strip() for p in function.parameters]
     for flag in ('wanted', 'asked'):
-        if flag in names:
+        if f'{flag}: bool' in function.parameters:
             yield f'{function} ({flag})'
 
 
@@ -194,7 +193,7 @@ def beside(function):
 def steps(file, text):
     """7: a function pointer, a table of functions, or a number that says which step to run."""
     for n, line in enumerate(text.split('\n')):
-        if re.search(r'\bfn\(|match (?:step|phase|mode|stage)\b', without_comments(line)):
+        if re.search(r'\bfn\(|match (?:step|phase|mode|stage) \{', without_comments(line)):
             yield f'{file}:{n + 1} {line.strip()}'
 
 
