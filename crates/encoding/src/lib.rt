@@ -1,6 +1,7 @@
 // How a problem and a search stand in arrays: what several crates read and write alike.
 #![tactic(auto)]
 
+pub mod atoms; // atoms.rt: atoms by their codes
 pub mod slots; // slots.rt: the code of a literal's atom, and the terms of slots
 pub mod values; // values.rt: the values of literals
 pub mod words; // words.rt: a signed number as a word
