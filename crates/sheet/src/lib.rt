@@ -48,18 +48,16 @@ fn line_of_kind(
         Kind::Symbol => lines::symbol_line(line, s, arities),
         Kind::Rule => lines::one_way::rule_line(line, s, &arities[..s.symbols], slots, rules),
         Kind::TwoWay => lines::two_way::two_way_line(line, s, &arities[..s.symbols], slots, rules),
-        Kind::Clause => {
-            lines::clause_line(
-                line,
-                s,
-                &arities[..s.symbols],
-                slots,
-                starts,
-                literals,
-                table,
-                index,
-            )
-        }
+        Kind::Clause => lines::clause_line(
+            line,
+            s,
+            &arities[..s.symbols],
+            slots,
+            starts,
+            literals,
+            table,
+            index,
+        ),
     }
 }
 
