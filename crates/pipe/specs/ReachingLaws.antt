@@ -92,9 +92,11 @@ module _ (sheet : List ℕ) (r : Result Sizes Refusal) (before after : Arrays) (
           let limits = accepted-limits sheet p held.reads in
           let its-arities : (i : ℕ) → i < length p.arities → get_or after.arities i 0 ≡ get_or p.arities i 0 =
           λ i below. ap (λ (a : Arrays). get_or a.arities i 0) held.holds ∙ sets-start-at before.arities p.arities (omega (arith, limits.symbols)) i below in
-          rw held.reads
-          (left_of ended sizes.clauses after.arities m, refl,
-          at-end p budget ended m sizes.clauses after.arities its.limits its-arities (ap (λ (x : Sizes). x.clauses) held.counts) (ends p its)))
+          rw held.reads (
+            left_of ended sizes.clauses after.arities m,
+            refl,
+            at-end p budget ended m sizes.clauses after.arities its.limits its-arities (ap (λ (x : Sizes). x.clauses) held.counts) (ends p its),
+          ))
 
 -- ── for the caller ──
 

@@ -6,7 +6,9 @@ ghost use Rattle.pipe.specs.Reaching.{ReachedAs};
 
 use definitions::Refusal;
 use encoding::values::STATE_WORDS;
-use encoding::{ATOMS, AtomTable, CODES, ClauseStore, LITERALS, LOGGED, RULE_WORDS, STARTS, SYMBOLS};
+use encoding::{
+    ATOMS, AtomTable, CODES, ClauseStore, LITERALS, LOGGED, RULE_WORDS, STARTS, SYMBOLS,
+};
 use machine::{Machine, Searched};
 use units::trail::Trail;
 
