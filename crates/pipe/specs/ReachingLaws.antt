@@ -2,6 +2,7 @@
 -- whatever they held before. Assumes nothing.
 use Rattle.std.specs.Prelude.{ℕ, ◌<◌, ◌≡◌, List, map}
 use Rattle.std.proofs.Math.Path.{refl, ap}
+use Rattle.std.specs.Prelude.{IsErrAnd}
 use Rattle.std.proofs.Common.{sym, ◌∙◌, arith, Result, Ok, Err}
 use Rattle.std.proofs.Math.ListN.{length, get_or}
 use Rattle.std.proofs.Math.Seq.{length-sets}
@@ -17,7 +18,6 @@ use Rattle.encoding.specs.Values.{Values, no_values}
 use Rattle.encoding.specs.Encoding.{atom_code, clause_words, starts_from, Arrays, empty_index, sizes_of, hold}
 use Rattle.encoding.specs.declared.Sizes.{Sizes}
 use Rattle.sheet.specs.LineHolds.{SheetRead}
-use Rattle.sheet.specs.declared.Read.{Read}
 use Rattle.clause_log.specs.StoreLaws.{sets-start-at}
 use Rattle.machine.specs.Machine.{machine, EndStands, Lengths, Loaded}
 use Rattle.machine.specs.declared.Machine.{Machine}
@@ -27,16 +27,17 @@ use Rattle.machine.specs.declared.Ended.{Ended}
 use Rattle.pipe.specs.Reaching.{ReachedAs}
 use Rattle.machine.specs.declared.Searched.{Searched}
 
-module _ (sheet : List ℕ) (r : Read) (before after : Arrays) (left : SheetRead (read sheet) r before after) where
+module _ (sheet : List ℕ) (r : Result Sizes Refusal) (before after : Arrays) (left : SheetRead (read sheet) r before after) where
   -- a refusal is handed on
-  pub refused-reached : (budget : ℕ) (f : Refusal) → r ≡ Read.Refused f → ReachedAs (read sheet) budget (Err f)
-  refused-reached budget f e = from (read sheet) left
+  pub refused-reached : (budget : ℕ) (f : Refusal) → r ≡ Err f → (reached : Result Searched Refusal) → IsErrAnd reached (λ g. g ≡ f) → ReachedAs (read sheet) budget reached
+  refused-reached budget f e (Ok x) same = absurd same
+  refused-reached budget f e (Err g) same = rw same (from (read sheet) left)
     where
       from : (reading : Reading) → SheetRead reading r before after → ReachedAs reading budget (Err f)
       from (refused q n) h = cc
-      from (accepted p) h = apart (let z : Read.Accepted (sizes_of p) ≡ Read.Refused f = sym h.0 ∙ e in cc)
+      from (accepted p) h = apart (let z : Ok (sizes_of p) ≡ Err f = sym h.0 ∙ e in cc)
 
-  module _ (sizes : Sizes) (e : r ≡ Read.Accepted sizes) where
+  module _ (sizes : Sizes) (e : r ≡ Ok sizes) where
     -- the arrays hold the problem of an accepted sheet
     record Held (p : Problem) : Type 0 where
       reads : read sheet ≡ accepted p
@@ -47,8 +48,8 @@ module _ (sheet : List ℕ) (r : Read) (before after : Arrays) (left : SheetRead
     by-problem {C} f = from (read sheet) refl left
       where
         from : (reading : Reading) → read sheet ≡ reading → SheetRead reading r before after → C
-        from (refused q n) d h = apart (let z : Read.Refused (record { number = q; line = n }) ≡ Read.Accepted sizes = sym h ∙ e in cc)
-        from (accepted p) d h = let same : Read.Accepted sizes ≡ Read.Accepted (sizes_of p) = sym e ∙ h.0 in f p (record { reads = d; counts = cc; holds = h.1 })
+        from (refused q n) d h = apart (let z : Err (record { number = q; line = n }) ≡ Ok sizes = sym h ∙ e in cc)
+        from (accepted p) d h = let same : Ok sizes ≡ Ok (sizes_of p) = sym e ∙ h.0 in f p (record { reads = d; counts = cc; holds = h.1 })
 
     module _ (empty : before.index ≡ empty_index) (arities : length before.arities ≡ 16) (heads numbers : List ℕ) (values : Values) (trail marks : List ℕ)
         (lengths : Lengths before.rules (machine before.starts before.literals heads numbers before.table before.index values trail marks)) (unset : values ≡ no_values) where
@@ -91,9 +92,11 @@ module _ (sheet : List ℕ) (r : Read) (before after : Arrays) (left : SheetRead
           let limits = accepted-limits sheet p held.reads in
           let its-arities : (i : ℕ) → i < length p.arities → get_or after.arities i 0 ≡ get_or p.arities i 0 =
           λ i below. ap (λ (a : Arrays). get_or a.arities i 0) held.holds ∙ sets-start-at before.arities p.arities (omega (arith, limits.symbols)) i below in
-          rw held.reads
-          (left_of ended sizes.clauses after.arities m, refl,
-          at-end p budget ended m sizes.clauses after.arities its.limits its-arities (ap (λ (x : Sizes). x.clauses) held.counts) (ends p its)))
+          rw held.reads (
+            left_of ended sizes.clauses after.arities m,
+            refl,
+            at-end p budget ended m sizes.clauses after.arities its.limits its-arities (ap (λ (x : Sizes). x.clauses) held.counts) (ends p its),
+          ))
 
 -- ── for the caller ──
 

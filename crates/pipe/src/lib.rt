@@ -6,9 +6,10 @@ ghost use Rattle.pipe.specs.Reaching.{ReachedAs};
 
 use definitions::Refusal;
 use encoding::values::STATE_WORDS;
-use encoding::{ATOMS, AtomTable, CODES, ClauseStore, LITERALS, LOGGED, RULE_WORDS, STARTS, SYMBOLS};
+use encoding::{
+    ATOMS, AtomTable, CODES, ClauseStore, LITERALS, LOGGED, RULE_WORDS, STARTS, SYMBOLS,
+};
 use machine::{Machine, Searched};
-use sheet::Read;
 use units::trail::Trail;
 
 // Reads the sheet and searches it: what is left of the search, or the first question that is answered no.
@@ -36,7 +37,7 @@ pub fn search_sheet(sheet: &[u8], budget: u32) -> Result<Searched, Refusal>
             marks: [0; ATOMS],
         },
     };
-    match sheet::read_sheet(
+    let sizes = sheet::read_sheet(
         sheet,
         &mut arities,
         &mut rules,
@@ -44,18 +45,14 @@ pub fn search_sheet(sheet: &[u8], budget: u32) -> Result<Searched, Refusal>
         &mut machine.store.literals,
         &mut machine.table.codes,
         &mut machine.table.index,
-    ) {
-        Read::Refused(refusal) => Err(refusal),
-        Read::Accepted(sizes) => {
-            let ended = search::search(sizes, budget, &rules, &mut machine);
-            Ok(Searched {
-                ended,
-                given: sizes.clauses,
-                arities,
-                store: machine.store,
-                codes: machine.table.codes,
-                values: machine.trail.values,
-            })
-        }
-    }
+    )?;
+    let ended = search::search(sizes, budget, &rules, &mut machine);
+    Ok(Searched {
+        ended,
+        given: sizes.clauses,
+        arities,
+        store: machine.store,
+        codes: machine.table.codes,
+        values: machine.trail.values,
+    })
 }

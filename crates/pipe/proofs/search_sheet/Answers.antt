@@ -12,7 +12,7 @@ pub search-ended-requires : goal.search-ended-requires
 unfolding empty_index
 search-ended-requires c =
     let e = c.read_sheet in
-    accepted-searchable _ e.result _ _ e.ensures _ c.in-Accepted.is refl refl _ _ _ _ _ (record {
+    accepted-searchable _ e.result _ _ e.ensures _ c.in_ok-sizes.was refl refl _ _ _ _ _ (record {
       of_rules = refl;
       of_starts = refl;
       of_literals = refl;
@@ -23,16 +23,16 @@ search-ended-requires c =
       of_marks = refl;
     }) refl
 
-pub returns-in-Refused : goal.returns-in-Refused
-returns-in-Refused c =
+pub returns-in_err-sizes : goal.returns-in_err-sizes
+returns-in_err-sizes c =
     let e = c.read_sheet in
-    refused-reached _ e.result _ _ e.ensures _ _ c.in-Refused.is
+    refused-reached _ e.result _ _ e.ensures _ _ c.in_err-sizes.was _ c.from_residual.ensures.1
 
-pub returns-in-Accepted : goal.returns-in-Accepted
+pub returns : goal.returns
 unfolding empty_index
-returns-in-Accepted c =
+returns c =
     let e = c.read_sheet in
-    accepted-reached _ e.result _ _ e.ensures _ c.in-Accepted.is refl refl _ _ _ _ _ (record {
+    accepted-reached _ e.result _ _ e.ensures _ c.in_ok-sizes.was refl refl _ _ _ _ _ (record {
       of_rules = refl;
       of_starts = refl;
       of_literals = refl;
