@@ -70,9 +70,6 @@ pub record LineGoesOn (atoms : ℕ) (text : List ℕ) (used : ℕ) (before : Lis
   pub held : (end : ℕ) (behind after : List ℕ) → LineHeld (clause_line_at atoms left rest) at words end behind after
       → LineHeld (clause_line_at atoms 8 text) used before end behind after
 
-pub line-first : (atoms : ℕ) (text : List ℕ) (used : ℕ) (before : List ℕ) → LineGoesOn atoms text used before 8 text used before
-line-first atoms text used before = record { none = λ h. h; held = λ end behind after h. h }
-
 module _ {atoms used left at : ℕ} {text before rest words : List ℕ} (on : LineGoesOn atoms text used before left rest at words) where
   -- where no literal may follow, or a 0 does
   module _ (closes : clause_line_at atoms left rest ≡ close_at rest) where

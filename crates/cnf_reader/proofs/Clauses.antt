@@ -18,9 +18,6 @@ pub record ClausesGoOn (atoms clauses : ℕ) (text : List ℕ) (starts0 literals
   pub held : (starts' literals' : List ℕ) → ClausesHeld (clauses_at atoms left rest) i used starts literals starts' literals'
       → ClausesHeld (clauses_at atoms clauses text) 0 0 starts0 literals0 starts' literals'
 
-pub clauses-first : (atoms clauses : ℕ) (text starts literals : List ℕ) → ClausesGoOn atoms clauses text starts literals clauses text 0 0 starts literals
-clauses-first atoms clauses text starts literals = record { none = λ h. h; held = λ starts' literals' h. h }
-
 module _ {atoms clauses left i used : ℕ} {text starts0 literals0 rest starts literals : List ℕ}
     (on : ClausesGoOn atoms clauses text starts0 literals0 left rest i used starts literals) where
   -- no line is left: nothing may stand behind them

@@ -2,12 +2,10 @@
 use Prim.Native.Nat.{ℕ, suc, ◌+◌, ◌-◌, ◌*◌, ◌/◌, ◌%◌, ◌≤◌, ◌<◌}
 use Rattle.std.specs.Prelude.{◌≡◌, refl, Bool, true, false, eqb, length, get_or, drop}
 use Rattle.std.proofs.Common.{ap, ◌∙◌, arith, append_assoc}
-use Rattle.std.proofs.lemmas.Bool.{false≢true}
 use Rattle.std.proofs.lemmas.List.{get_or-take, get_or-drop, length-take}
 use Rattle.std.proofs.Math.Seq.{drop-cons}
 use mathlib.Core.List.{List, [], ◌∷◌, ◌++◌, map, map-append}
 use lib.ListN.{drop_of_length-le}
-use Rattle.encoding.specs.Lengths.{literal_array}
 use Rattle.encoding.specs.ArrayLaws.{get_d-rising}
 use Rattle.encoding.specs.CountLaws.{up_from-more, up_from-none}
 use Rattle.encoding.specs.Values.{unset_at, false_word}
@@ -32,9 +30,6 @@ column-append a b = ap (joined field_bytes) (map-append narrow a b) ∙ joined-a
 -- a number with no sign, as the calls have it
 abbrev pub unsigned : ℕ → Number
 unsigned n = record { negative = false; size = n }
-
-pub no_sign : {n : ℕ} → (unsigned n).negative ≡ true → n < 1000
-no_sign e = absurd (false≢true e)
 
 pub row-parts : (ns : List Number) → Parts (row_bytes ns) (column_bytes ns) (10 ∷ [])
 unfolding row_bytes line_bytes column_bytes
@@ -103,17 +98,7 @@ module _ (arities table words : List ℕ) (i : ℕ) where
 -- ── the lines of kind 6 ──
 
 module _ (x : Searched) (n : ℕ) (listable : Listable x) (inside : n < x.ended.run.clauses - x.given) where
-  -- the clause lies in its array
-  pub clause-inside : (x.given + n + 1 ≤ 577) × (n < 512) × (get_or x.store.starts (x.given + n) 0 ≤ get_or x.store.starts (x.given + n + 1) 0)
-      × (get_or x.store.starts (x.given + n + 1) 0 ≤ literal_array)
-  clause-inside = (
-    omega (arith, listable.clauses.limit),
-    omega (arith, listable.clauses.few),
-    listable.clauses.rising (x.given + n) (omega arith),
-    listable.clauses.inside (x.given + n + 1) (omega arith),
-  )
-
-  -- and its words are small
+  -- its words are small
   pub words-small : (words : List ℕ) → words ≡ clause_at x.store.starts x.store.literals (x.given + n) → (i : ℕ) → i < length words → get_or words i 0 < 512
   unfolding clause_at
   words-small words e i h =
