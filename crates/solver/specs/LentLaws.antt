@@ -9,7 +9,7 @@ use Rattle.definitions.specs.Questions.{read}
 use Rattle.definitions.specs.Call.{Result, refusal, answered, Lending, lendings, first_short, after_lending, result, listing_of, written}
 use Rattle.definitions.specs.Export.{export_lendings, export_result, export_of}
 use Rattle.definitions.specs.Numbered.{question_number}
-use Rattle.definitions.specs.Answers.{asked_of_call}
+use Rattle.definitions.specs.Asked.{asked_of_call}
 use Rattle.definitions.specs.declared.Question.{Question}
 use Rattle.definitions.specs.declared.Refusal.{Refusal}
 use Rattle.theory.specs.Tests.{by-test, apart}
