@@ -39,10 +39,10 @@ pub fn with_bit(m: u32, c: usize) -> u32
     m | (1u32 << c)
 }
 
-// The lowest set bit.
+// The lowest set bit. The clause on the word itself is for callers that read it from an array.
 pub fn lowest(m: u32) -> usize
     requires { 0 < m }
-    ensures { (result ≡ count_trailing_zeros 32 m) × (result < 32) }
+    ensures { (result ≡ count_trailing_zeros 32 m) × (result < 32) × (m < 2 ^ 32) }
 {
     wide32(u32::trailing_zeros(m))
 }

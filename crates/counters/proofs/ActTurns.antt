@@ -1,40 +1,11 @@
--- Step A in the code's terms: the loop over the clauses that ask, and what a literal weighs. Assumes nothing.
-use Prim.Native.Nat.{ℕ, suc, ◌+◌, ◌-◌, ◌≤◌, ◌<◌}
-use mathlib.Core.Path.{◌≡◌, sym, ◌∙◌}
-use mathlib.Core.Bool.{false}
-use mathlib.Core.List.{List}
-use native.Mathlib.Omega.{arith}
-use lib.ListN.{get_or}
-use borrow.Author.Tests.{eq-eqb, ne_eqb}
-use mir.Syntax.{w32}
-use mir.Val.{SFits, of_z}
-use Rattle.definitions.specs.LiteralTest.{Value, true_value, false_value}
-use Rattle.encoding.specs.Values.{Values, is_false_value}
-use Rattle.encoding.specs.ValueLaws.{bits-true, bits-false}
+-- Step A in the code's terms: the loop over the clauses that ask. Assumes nothing.
+use Rattle.std.specs.Prelude.{ℕ, suc, ◌+◌, ◌-◌, ◌≤◌, ◌<◌, ◌≡◌, List, get_or}
+use Rattle.std.proofs.Common.{arith}
+use Rattle.encoding.specs.Values.{Values}
 use Rattle.encoding.specs.ArrayLaws.{get_d-rising}
 use Rattle.units.specs.Units.{act_at, act_from, ClausesFit}
 use Rattle.units.specs.declared.UnitAct.{UnitAct}
 use Rattle.units.specs.declared.UnitAct.TheVariants.{Conflict, Force, Nothing}
-use Rattle.counters.specs.Weights.{weight}
-
--- ── what a literal weighs, by the bits of its value ──
-
-module _ {v : Value} (fits : SFits w32 v) where
-  pub weight-false : of_z w32 v ≡ of_z w32 false_value → 0 ≡ weight v
-  unfolding weight
-  weight-false e = cc (sym (bits-false fits) ∙ eq-eqb (of_z w32 v) (of_z w32 false_value) e)
-
-  module _ (n : of_z w32 v ≡ of_z w32 false_value → ⊥) where
-    not-false : is_false_value v ≡ false
-    not-false = sym (bits-false fits) ∙ ne_eqb (of_z w32 v) (of_z w32 false_value) n
-
-    pub weight-true : of_z w32 v ≡ of_z w32 true_value → 257 ≡ weight v
-    unfolding weight
-    weight-true e = cc (not-false, sym (bits-true fits) ∙ eq-eqb (of_z w32 v) (of_z w32 true_value) e)
-
-    pub weight-unset : (of_z w32 v ≡ of_z w32 true_value → ⊥) → 1 ≡ weight v
-    unfolding weight
-    weight-unset m = cc (not-false, sym (bits-true fits) ∙ ne_eqb (of_z w32 v) (of_z w32 true_value) m)
 
 -- the first of the clauses fit too
 module _ {starts literals heads : List ℕ} {given : ℕ} where
@@ -53,9 +24,6 @@ module _ {starts literals heads : List ℕ} {given : ℕ} where
 -- ── the loop over the clauses ──
 
 module _ (values : Values) (starts literals heads : List ℕ) (given goals : ℕ) where
-  pub act-start : (n : ℕ) → act_from values starts literals heads given goals 0 (n - 0) ≡ act_from values starts literals heads given goals 0 n
-  act-start n = let e : n - 0 ≡ n = omega arith in rw e
-
   module _ (c n : ℕ) {x : UnitAct} (left : act_from values starts literals heads given goals c (n - c) ≡ x) where
     module _ (less : c < n) {a : UnitAct} (does : a ≡ act_at values starts literals heads given goals c) where
       pub act-turn : a ≡ Nothing → act_from values starts literals heads given goals (c + 1) (n - (c + 1)) ≡ x

@@ -1,2 +1,3 @@
 pub mod ActTurns
 pub mod ClauseTurns
+pub mod KeptTurns

@@ -1,12 +1,8 @@
 -- Step A over the clauses that ask: the next of them, and that the first clause that acts is one of them. Assumes nothing.
-use Prim.Native.Nat.{ℕ, zero, suc, ◌+◌, ◌-◌, ◌*◌, ◌/◌, ◌%◌, ◌^◌, ◌≤◌, ◌<◌}
-use Rattle.std.specs.Prelude.{◌≡◌, true, false, List, leb, get_or}
-use Rattle.std.proofs.Common.{sym, ◌∙◌, lt-ltb, leb-true, leb-false}
-use native.Mathlib.Omega.{arith}
-use Rattle.std.specs.Int.Count.{count_trailing_zeros}
-use Rattle.std.proofs.lemmas.Nat.{shr_le}
-use Rattle.theory.specs.Tests.{true-and-false}
-use Rattle.bits.specs.Bits.{has, has-zero, has-high, has-lowest, none-lower, has-over, among}
+use Rattle.std.specs.Prelude.{◌≡◌, true, false, List, leb, get_or, ℕ, zero, suc, ◌+◌, ◌-◌, ◌≤◌, ◌<◌}
+use Rattle.std.proofs.Common.{sym, ◌∙◌, lt-ltb, leb-true, leb-false, arith}
+use Rattle.bits.specs.Bits.{among}
+use Rattle.bits.specs.Sets.{NoneBetween}
 use Rattle.encoding.specs.CountLaws.{by_order}
 use Rattle.encoding.specs.Values.{Values}
 use Rattle.units.specs.Units.{clause_at, may_set, act_at, act_from}
@@ -16,50 +12,6 @@ use Rattle.counters.specs.Weights.{whole-is-once}
 use Rattle.counters.specs.ByNumber.{rests}
 use Rattle.counters.specs.Counters.{read_whole, number_asks, counters_of, counters}
 use Rattle.counters.specs.CounterLaws.{counters-kept}
-
--- ── the next clause that asks ──
-
--- no clause from one up to another asks
-abbrev pub Unasked : List ℕ → ℕ → ℕ → Type 0
-Unasked asking c r = (i : ℕ) → c ≤ i → i < r → among asking i ≡ false
-
-module _ (asking : List ℕ) (c i word : ℕ) (is : word ≡ get_or asking (i / 64) 0) (so_far : Unasked asking c i) where
-  shifted : (j : ℕ) → i ≤ j → j / 64 ≡ i / 64 → among asking j ≡ has (j - i) (word / 2 ^ (i % 64))
-  unfolding among
-  shifted j l q =
-      let e : i % 64 + (j - i) ≡ j % 64 = omega arith in
-      rw (q, ← is, has-over (i % 64) (j - i) word, e)
-
-  pub none_here : word / 2 ^ (i % 64) ≡ 0 → Unasked asking c (64 * (i / 64 + 1))
-  none_here z j a b =
-      by_order i j
-      (λ l. shifted j l (omega arith) ∙ rw z (has-zero (j - i)))
-      (λ l. so_far j a l)
-
-  module _ (small : word < 2 ^ 64) (t : ℕ) (some : 0 < word / 2 ^ (i % 64)) (tz : t ≡ count_trailing_zeros 64 (word / 2 ^ (i % 64))) where
-    here : has (i % 64 + t) word ≡ true
-    here =
-        let smaller = shr_le word (i % 64) in
-        let below : word / 2 ^ (i % 64) < 2 ^ 64 = omega arith in
-        sym (has-over (i % 64) t word) ∙ rw tz (has-lowest 64 (word / 2 ^ (i % 64)) some below)
-
-    in-word : i % 64 + t < 64
-    in-word = by_order 64 (i % 64 + t) (λ l. true-and-false here (has-high (i % 64 + t) 64 word small l)) (λ l. l)
-
-    pub next_here : (i < 640 → i + t < 640) × Unasked asking c (i + t) × (among asking (i + t) ≡ true)
-    unfolding among
-    next_here =
-        let w = in-word in
-        let bit : (i + t) % 64 ≡ i % 64 + t = omega arith in
-        let at : (i + t) / 64 ≡ i / 64 = omega arith in (
-          λ l. omega arith,
-          λ j a b. by_order i j
-              (λ l.
-              let s : j - i < count_trailing_zeros 64 (word / 2 ^ (i % 64)) = omega arith in
-              shifted j l (omega arith) ∙ none-lower 64 (j - i) (word / 2 ^ (i % 64)) s)
-              (λ l. so_far j a l),
-          rw (bit, at, ← is) here,
-        )
 
 -- ── the numbers of the clauses ──
 
@@ -104,7 +56,7 @@ module _ (values : Values) (starts literals heads : List ℕ) (given goals : ℕ
         rests values (clause_at starts literals c) (may_set values starts literals heads given goals c)
         (asks-not values (λ c. clause_at starts literals c) clauses few its c l n)
 
-    to-next : (c r : ℕ) → c ≤ r → r ≤ clauses → Unasked asking c r → acts c (clauses - c) ≡ acts r (clauses - r)
+    to-next : (c r : ℕ) → c ≤ r → r ≤ clauses → NoneBetween asking c r → acts c (clauses - c) ≡ acts r (clauses - r)
     to-next c r a b h =
         let e : clauses - c ≡ (r - c) + (clauses - r) = omega arith in
         let d : c + (r - c) ≡ r = omega arith in
@@ -115,7 +67,7 @@ module _ (values : Values) (starts literals heads : List ℕ) (given goals : ℕ
     none_left c l = let e : clauses - c ≡ 0 = omega arith in rw e
 
     -- from the start, or behind a clause that does nothing, to the next that asks
-    pub ask-next : (c r : ℕ) {x : UnitAct} → c ≤ r → Unasked asking c r → acts c (clauses - c) ≡ x → acts r (clauses - r) ≡ x
+    pub ask-next : (c r : ℕ) {x : UnitAct} → c ≤ r → NoneBetween asking c r → acts c (clauses - c) ≡ x → acts r (clauses - r) ≡ x
     ask-next c r l h left =
         by_order r clauses
         (λ b. sym (to-next c r l b h) ∙ left)

@@ -1,14 +1,10 @@
 -- What a clause asks for, by its number. At 2 or more it rests. At 0 it is a conflict. At 1 the first word that is not false is the only one and not
 -- true, and its place tells whether the clause may set it. Assumes nothing.
-use Prim.Native.Nat.{ℕ, zero, suc, ◌+◌, ◌-◌, ◌*◌, ◌≤◌, ◌<◌}
-use Rattle.std.specs.Prelude.{◌≡◌, Bool, true, false, not, ◌&&◌, ◌||◌, leb, take, drop}
+use Rattle.std.specs.Prelude.{◌≡◌, Bool, true, false, not, ◌&&◌, ◌||◌, leb, take, drop, ℕ, zero, suc, ◌+◌, ◌-◌, ◌*◌, ◌≤◌, ◌<◌, List, [], ◌∷◌}
 use Rattle.std.proofs.Math.Path.{refl, sym, ap}
-use Rattle.std.proofs.Common.{◌∙◌, take-take}
-use mathlib.Core.List.{List, [], ◌∷◌}
-use native.Mathlib.Omega.{arith}
+use Rattle.std.proofs.Common.{◌∙◌, take-take, arith, eqb-true, ltb-false, le-leb}
 use Rattle.std.proofs.Math.Dec.{eqb, ltb, leb-suc-zero, leb-suc-suc}
 use Rattle.std.proofs.Math.ListN.{length, get_or}
-use borrow.Author.Tests.{eqb-true, ltb-false, le-leb}
 use Rattle.definitions.specs.Lists.{all, filter, distinct}
 use Rattle.theory.specs.Tests.{by-test, true-and-false}
 use Rattle.theory.specs.ListLaws.{filter-in, filter-all, filter-both}
@@ -29,7 +25,7 @@ unfoldable pub may_set_at : List ℕ → ℕ → ℕ → ℕ → ℕ → ℕ →
 may_set_at heads goal_clauses goals c w before = ltb w (2 * goals) || (not (ltb c goal_clauses) && leb (get_or heads (c - goal_clauses) 0) before)
 
 module _ (values : Values) where
-  abbrev open_word : ℕ → Bool
+  abbrev pub open_word : ℕ → Bool
   open_word w = not (false_word values w)
 
   -- ── the words that are left tell the number ──

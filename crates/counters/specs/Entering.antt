@@ -1,19 +1,16 @@
 -- A clause is entered behind the others: its bits in the rows of its words, its number, and whether it asks. Assumes nothing.
-use Rattle.std.specs.Prelude.{ℕ, ◌+◌, ◌-◌, ◌*◌, ◌/◌, ◌%◌, ◌^◌, ◌≤◌, ◌<◌, ◌≡◌, refl, List, [], ◌∷◌, ◌++◌, eqb, ltb, length, get_or, set, take, drop}
+use Rattle.std.proofs.lemmas.Bool.{eqb-false}
+use Rattle.std.specs.Prelude.{ℕ, ◌+◌, ◌*◌, ◌/◌, ◌%◌, ◌^◌, ◌≤◌, ◌<◌, ◌≡◌, refl, Bool, List, [], ◌∷◌, ◌++◌, eqb, ltb, length, get_or, set, take}
 use Rattle.std.proofs.Math.Path.{sym}
-use Rattle.std.proofs.Common.{◌∙◌, length-set}
+use Rattle.std.proofs.Common.{◌∙◌, length-set, add-one, take-suc, arith, eqb-true, eq-eqb, ne_eqb, ltb-true, ltb-false, lt-ltb, le-ltb}
 use Rattle.std.proofs.Math.Bool.{true, false, or-true, or-false}
 use Rattle.std.proofs.Math.Nat.{add-zero}
-use native.Mathlib.Omega.{arith}
 use Rattle.std.proofs.Math.Seq.{get_or-set_same, get_or-set_other}
-use borrow.Author.Tests.{eqb-true, eqb-false, eq-eqb, ne_eqb, ltb-true, ltb-false, lt-ltb, le-ltb}
 use Rattle.definitions.specs.Lists.{any}
 use Rattle.theory.specs.Tests.{by-test}
-use Rattle.bits.specs.Bits.{has, has-put, put-below, has-shift, one_shifted, among}
-use Rattle.encoding.specs.ArrayLaws.{get_d-set-each, get_d-rising, part-snoc, part-nil}
-use Rattle.encoding.specs.Lengths.{literal_array}
+use Rattle.bits.specs.Bits.{has, has-put, put-below, one_shifted, among}
+use Rattle.encoding.specs.ArrayLaws.{get_d-set-each}
 use Rattle.encoding.specs.Values.{Values}
-use Rattle.units.specs.Units.{clause_at, ClausesFit}
 use Rattle.counters.specs.Weights.{one_if, once, any_snoc, once-snoc, weighs}
 use Rattle.counters.specs.Counters.{number_asks, counters_of, counters, row_at}
 use Rattle.counters.specs.CounterLaws.{kept-counters, counters-kept}
@@ -181,37 +178,31 @@ module _ {f : ℕ → ℕ} {clause : ℕ → List ℕ} {c : ℕ} {rows counts as
 
 -- ── in the code's terms ──
 
--- the words from a place up to another
-abbrev pub part : List ℕ → ℕ → ℕ → List ℕ
-part literals from i = take (i - from) (drop from literals)
-
-pub part-start : (literals : List ℕ) (from : ℕ) → [] ≡ part literals from from
-part-start literals from = sym (part-nil literals from from (omega arith))
-
-module _ {f : ℕ → ℕ} {c n : ℕ} {rows₀ rows : List ℕ} (ls : List ℕ) (from i : ℕ) (e : Entering f c n (part ls from i) rows₀ rows)
-    (a : from ≤ i) (l : i < length ls) {w : ℕ} (small : get_or ls i 0 < 512) (same : w ≡ get_or ls i 0)
-    {old : ℕ} (is : old ≡ get_or rows (10 * w + c / 64) 0) {b : ℕ} (bit : b ≡ old / 2 ^ (c % 64) % 2) where
-  is-there : old ≡ get_or rows (10 * get_or ls i 0 + c / 64) 0
+-- the words of a clause up to a place, and the one there
+module _ {f : ℕ → ℕ} {c n : ℕ} {rows₀ rows : List ℕ} (words : List ℕ) (i : ℕ) (e : Entering f c n (take i words) rows₀ rows)
+    (l : i < length words) {w : ℕ} (small : get_or words i 0 < 512) (same : w ≡ get_or words i 0)
+    {old : ℕ} (is : old ≡ get_or rows (10 * w + c / 64) 0) {b : Bool} (bit : b ≡ has (c % 64) old) where
+  is-there : old ≡ get_or rows (10 * get_or words i 0 + c / 64) 0
   is-there = is ∙ rw same
 
-  its-bit : has (c % 64) old ≡ eqb b 1
-  its-bit = rw bit (has-shift (c % 64) old)
+  more : take (i + 1) words ≡ take i words ++ (get_or words i 0 ∷ [])
+  more = rw add-one (take-suc words i 0 l)
 
-  pub turn-again : b ≡ 1 → Entering f c n (part ls from (i + 1)) rows₀ rows
-  turn-again h = rw (part-snoc ls from i a l) (enter-again e (get_or ls i 0) small old is-there (its-bit ∙ eq-eqb b 1 h))
+  pub turn-again : b ≡ true → Entering f c n (take (i + 1) words) rows₀ rows
+  turn-again h = rw more (enter-again e (get_or words i 0) small old is-there (sym bit ∙ h))
 
-  module _ (off : b ≡ 1 → ⊥) (below : old < 2 ^ 64) where
+  module _ (off : b ≡ false) (below : old < 2 ^ 64) where
     free : has (c % 64) old ≡ false
-    free = its-bit ∙ ne_eqb b 1 off
+    free = sym bit ∙ off
 
     pub turn-room : old + (1 * 2 ^ (c % 64)) % 2 ^ 64 < 2 ^ 64
     turn-room = rw (one_shifted 64 (c % 64) (omega arith)) (put-below (c % 64) 64 old free (omega arith) below)
 
-    pub turn-new : (r : ℕ) → r ≡ f (get_or ls i 0) → c < 640 → length rows₀ ≡ 5120
-        → Entering f c (n + r) (part ls from (i + 1)) rows₀ (set rows (10 * w + c / 64) (old + (1 * 2 ^ (c % 64)) % 2 ^ 64))
+    pub turn-new : (r : ℕ) → r ≡ f (get_or words i 0) → c < 640 → length rows₀ ≡ 5120
+        → Entering f c (n + r) (take (i + 1) words) rows₀ (set rows (10 * w + c / 64) (old + (1 * 2 ^ (c % 64)) % 2 ^ 64))
     turn-new r q few size =
-        rw (part-snoc ls from i a l, q, same, one_shifted 64 (c % 64) (omega arith))
-        (enter-fresh e (get_or ls i 0) small old is-there free below few size)
+        rw (more, q, same, one_shifted 64 (c % 64) (omega arith))
+        (enter-fresh e (get_or words i 0) small old is-there free below few size)
 
 -- a clause is entered behind c others
 module _ (values : Values) (clause : ℕ → List ℕ) {c : ℕ} {rows counts asking : List ℕ} (few : c < 640)
@@ -233,20 +224,3 @@ module _ (values : Values) (clause : ℕ → List ℕ) {c : ℕ} {rows counts as
         → clause c ≡ words → counters rows' (set counts c n) (set asking (c / 64) (a + low)) ≡ counters_of values clause (c + 1)
     entered-as q e same =
         kept-counters values clause (c + 1) (rw (q, is, one_shifted 64 (c % 64) (omega arith)) (kept-entered kept few (rw (← same) at e)))
-
--- ── a clause in its arrays ──
-
-module _ {starts literals heads : List ℕ} {given clauses : ℕ} (fit : ClausesFit starts literals heads given clauses) (c : ℕ) (l : c < clauses)
-    {from end : ℕ} (is : from ≡ get_or starts c 0) (to : end ≡ get_or starts (c + 1) 0) where
-  pub clause-inside : (from ≤ end) × (end ≤ literal_array) × (c < 640) × ((i : ℕ) → i < end → get_or literals i 0 < 512)
-  clause-inside =
-      let a = fit.rising c l in
-      let b = fit.inside (c + 1) (omega arith) in
-      let m = fit.limit in
-      let up = get_d-rising starts clauses fit.rising (c + 1) (omega arith) in
-      (omega arith, omega arith, omega arith, λ i k. fit.words i (omega arith))
-
-pub clause-part : (starts literals : List ℕ) (c : ℕ) {from end : ℕ} → from ≡ get_or starts c 0 → end ≡ get_or starts (c + 1) 0
-    → clause_at starts literals c ≡ part literals from end
-unfolding clause_at
-clause-part starts literals c is to = rw (is, to)

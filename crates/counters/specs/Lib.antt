@@ -10,3 +10,4 @@ pub mod Undoing
 pub mod Entering
 pub mod Asking
 pub mod TrailCounts
+pub mod ClauseWords

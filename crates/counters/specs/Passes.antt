@@ -1,16 +1,16 @@
 -- A pass over the clauses that hold a literal: bit by bit through a word of its row, then word by word. Assumes nothing.
+use Rattle.std.proofs.lemmas.Bool.{eqb-false}
 use Rattle.std.specs.Prelude.{ℕ, ◌+◌, ◌-◌, ◌*◌, ◌/◌, ◌%◌, ◌^◌, ◌≤◌, ◌<◌, ◌≡◌, Bool, ◌&&◌, ◌||◌, List, eqb, ltb, length, get_or, set}
 use Rattle.std.proofs.Math.Path.{refl}
-use Rattle.std.proofs.Common.{sym, ap, ◌∙◌, length-set}
+use Rattle.std.proofs.Common.{sym, ap, ◌∙◌, length-set, arith, eqb-true, eq-eqb, ne_eqb, ltb-true, ltb-false, lt-ltb, le-ltb, le-leb}
 use Rattle.std.proofs.Math.Bool.{true, false, not, and-true, and-false, or-false, and-not_self}
 use Rattle.std.proofs.Math.Nat.{add-zero}
-use native.Mathlib.Omega.{arith}
 use Rattle.std.specs.Int.Bits.{bit_and, bit_or}
 use Rattle.std.proofs.lemmas.Nat.{or_lt}
 use Rattle.std.specs.Int.Count.{count_trailing_zeros}
 use Rattle.std.proofs.Math.Pow.{pow_pos}
 use Rattle.std.proofs.Math.Seq.{get_or-set_same, get_or-set_other}
-use borrow.Author.Tests.{eqb-true, eqb-false, eq-eqb, ne_eqb, ltb-true, ltb-false, lt-ltb, le-ltb, le-leb, lt-leb}
+use borrow.Author.Tests.{lt-leb}
 use Rattle.theory.specs.Tests.{by-test, and_left, and_right}
 use Rattle.bits.specs.Bits.{has, has-zero, lowest, has-lowest, has-less, has-or, has-taken, has-put, put-below, one_shifted, among}
 use Rattle.counters.specs.Counters.{number_asks, row_at}

@@ -1,10 +1,9 @@
 -- The counters place by place, for any weight of words, since a literal is set in two passes; and what a pass over the clauses of a row does to them.
 -- Assumes nothing.
 use Rattle.std.specs.Prelude.{ℕ, ◌+◌, ◌*◌, ◌/◌, ◌%◌, ◌^◌, ◌≤◌, ◌<◌, ◌≡◌, Bool, true, ◌&&◌, List, eqb, ltb, length, replicate}
-use Rattle.std.proofs.Common.{sym, ◌∙◌, pow_pos, ltb-true, lt-ltb, le-ltb}
+use Rattle.std.proofs.Common.{sym, ◌∙◌, pow_pos, ltb-true, lt-ltb, le-ltb, arith}
 use Rattle.std.proofs.Math.Path.{ap}
 use Rattle.std.proofs.Math.Bool.{false}
-use native.Mathlib.Omega.{arith}
 use Rattle.std.proofs.Math.ListN.{get_or}
 use Rattle.std.proofs.lemmas.List.{length-replicate}
 use Rattle.definitions.specs.Lists.{any}

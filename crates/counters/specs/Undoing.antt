@@ -1,7 +1,6 @@
 -- Entries of the trail are undone one by one, and the counters are those of the values that are left. Assumes nothing.
-use Rattle.std.specs.Prelude.{ℕ, ◌+◌, ◌-◌, ◌/◌, ◌%◌, ◌≤◌, ◌<◌, ◌≡◌, refl, eqb, length, get_or, take, drop}
+use Rattle.std.specs.Prelude.{ℕ, ◌+◌, ◌-◌, ◌/◌, ◌%◌, ◌≤◌, ◌<◌, ◌≡◌, refl, eqb, length, get_or, take, drop, List, [], ◌∷◌}
 use Rattle.std.proofs.Common.{sym, ◌∙◌, arith, eqb-true}
-use mathlib.Core.List.{List, [], ◌∷◌}
 use Rattle.std.proofs.lemmas.Bool.{eqb-false}
 use Rattle.definitions.specs.LiteralTest.{unset_value}
 use Rattle.theory.specs.Tests.{by-test}

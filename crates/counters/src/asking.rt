@@ -1,133 +1,96 @@
 // Step A over the clauses that ask.
-ghost use Rattle.std.specs.Prelude.{◌≡◌, true, List, ℕ, ◌+◌, ◌-◌, ◌≤◌, ◌<◌, get_or, take, drop};
-ghost use Rattle.bits.specs.Bits.{among};
-ghost use Rattle.encoding.specs.Lengths.{literal_array};
+ghost use Rattle.std.specs.Prelude.{◌≡◌, List, ℕ, ◌+◌, ◌≤◌, ◌<◌, MatchOption, get_or, length};
 ghost use Rattle.units.specs.Units.{clause_at, act_at, act_from, ClausesFit};
+ghost use Rattle.units.specs.declared.UnitAct.TheVariants.{Force, Nothing};
 ghost use Rattle.counters.specs.Counters.{read_whole, counters, counters_of};
 ghost use Rattle.counters.specs.ByNumber.{first_open, may_set_at};
-ghost use Rattle.counters.specs.Asking.{Unasked};
 
-use crate::{PLACES, WORDS};
-use bits::long;
+use crate::Counters;
+use bits::sets;
 use encoding::values::Values;
-use encoding::{LITERALS, LOGGED, STARTS, values};
+use encoding::{ClauseStore, values};
 use units::UnitAct;
 
-// The first clause from c on that asks, or a number that no clause has.
-fn next_asking(asking: &[u64; WORDS], c: usize, clauses: usize) -> usize
-    requires { (c ≤ 640) × (clauses ≤ 640) }
-    ensures { (c ≤ result) × (result ≤ 640) × Unasked asking.now c result × (result < clauses → among asking.now result ≡ true) }
+// The place of the first word of a clause that is not false.
+fn first_open(values: &Values, clause: &[u16]) -> Option<usize>
+    requires { (i : ℕ) → i < length clause.now → get_or clause.now i 0 < 512 }
+    ensures { MatchOption result (first_open values.now clause.now ≡ length clause.now)
+        (λ at. (first_open values.now clause.now ≡ at) × (at < length clause.now)) }
 {
-    let mut i = c;
-    while i < clauses {
-        let k = i / 64;
-        let from = i % 64;
-        let m = long::word(asking[k]) >> from;
-        if 0 < m {
-            return i + long::low_zeros(m);
+    clause.iter().position(|w| !values::is_false(values, *w))
+}
+
+// The clauses as step A reads them: under the values, with the numbers of goal clauses and of goal atoms.
+#[derive(Clone, Copy, Drop)]
+struct Clauses<'a> {
+    values: &'a Values,
+    store: &'a ClauseStore,
+    given: usize,
+    goals: usize,
+    ghost few_goals: { goals ≤ 256 },
+}
+
+impl Clauses<'_> {
+    // Whether clause c may set a literal that so many false ones stand before: where the negated heads are among these, all heads are true.
+    #[tactic(auto, unfolding(crate::specs::ByNumber::may_set_at))]
+    fn may_set(&self, c: usize, w: u16, before: usize) -> bool
+        requires { c < self.now.given + 512 }
+        ensures { result ≡ may_set_at self.now.store.now.heads self.now.given self.now.goals c w before }
+    {
+        if usize::from(w) < 2 * self.goals {
+            return true;
         }
-        i = 64 * (k + 1);
-    }
-    i
-}
-
-// The place of the first word that is not false, from one place up to another.
-fn first_open(values: &Values, literals: &[u16; LITERALS], from: usize, end: usize) -> usize
-    requires { (from ≤ end) × (end ≤ literal_array) × ((i : ℕ) → i < end → get_or literals.now i 0 < 512) }
-    ensures { result ≡ from + first_open values.now (take (end - from) (drop from literals.now)) }
-{
-    let words: &[u16] = literals; // the proof knows a slice's length
-    let mut i = from;
-    while i < end {
-        let w = words[i];
-        if !values::is_false(values, w) {
-            return i;
+        if c < self.given {
+            return false;
         }
-        i += 1;
+        usize::from(self.store.heads[c - self.given]) <= before
     }
-    i
+
+    // The literal that clause c sets, where one alone of its literals is not false: it is unset.
+    fn forced(&self, c: usize) -> Option<u16>
+        requires { ClausesFit self.now.store.now.starts self.now.store.now.literals self.now.store.now.heads self.now.given (c + 1)
+            × (read_whole self.now.values.now (clause_at self.now.store.now.starts self.now.store.now.literals c) ≡ 1) }
+        ensures { let act = act_at self.now.values.now self.now.store.now.starts self.now.store.now.literals self.now.store.now.heads self.now.given self.now.goals c in
+            MatchOption result (act ≡ Nothing) (λ w. act ≡ Force w) }
+    {
+        let clause = self.store.clause(c);
+        let before = first_open(self.values, clause)?;
+        let w = clause[before];
+        self.may_set(c, w, before).then_some(w)
+    }
 }
 
-// Whether clause c may set a literal that so many false ones stand before: where the negated heads are among these, all heads are true.
-fn may_set(
-    heads: &[u8; LOGGED],
-    given: usize,
-    goals: usize,
-    c: usize,
-    w: u16,
-    before: usize,
-) -> bool
-    requires { (goals ≤ 256) × (c < given + 512) }
-    ensures { result ≡ may_set_at heads.now given goals c w before }
-{
-    if encoding::wide(w) < 2 * goals {
-        return true;
-    }
-    if c < given {
-        return false;
-    }
-    let i = c - given;
-    encoding::wide8(heads[i]) <= before
-}
-
-// What clause c asks for, by its number: at 0 all its literals are false, at 1 the first that is not is the only one, and unset.
-fn act_at(
-    values: &Values,
-    starts: &[u16; STARTS],
-    literals: &[u16; LITERALS],
-    heads: &[u8; LOGGED],
-    counts: &[u32; PLACES],
-    given: usize,
-    goals: usize,
-    c: usize,
-) -> UnitAct
-    requires { (goals ≤ 256) × ClausesFit starts.now literals.now heads.now given (c + 1)
-        × (get_or counts.now c 0 ≡ read_whole values.now (clause_at starts.now literals.now c)) × (get_or counts.now c 0 ≤ 1) }
-    ensures { result ≡ act_at values.now starts.now literals.now heads.now given goals c }
-{
-    if counts[c] == 0 {
-        return UnitAct::Conflict;
-    }
-    let next = c + 1;
-    let from = encoding::wide(starts[c]);
-    let end = encoding::wide(starts[next]);
-    let at = first_open(values, literals, from, end);
-    let w = literals[at];
-    if may_set(heads, given, goals, c, w, at - from) {
-        return UnitAct::Force(w);
-    }
-    UnitAct::Nothing
-}
-
-// Step A: the first clause that is a conflict or sets its one unset literal.
-pub fn next_act(
-    values: &Values,
-    starts: &[u16; STARTS],
-    literals: &[u16; LITERALS],
-    heads: &[u8; LOGGED],
-    counts: &[u32; PLACES],
-    asking: &[u64; WORDS],
-    given: usize,
-    goals: usize,
-    clauses: usize,
-) -> UnitAct
-    requires { (goals ≤ 256) × ClausesFit starts.now literals.now heads.now given clauses
-        × ((rows : List ℕ) × (counters rows counts.now asking.now ≡ counters_of values.now (λ c. clause_at starts.now literals.now c) clauses)) }
-    ensures { result ≡ act_from values.now starts.now literals.now heads.now given goals 0 clauses }
-{
-    let mut c = next_asking(asking, 0, clauses);
-    while c < clauses {
-        match act_at(values, starts, literals, heads, counts, given, goals, c) {
-            UnitAct::Conflict => {
+impl Counters {
+    // Step A: the first clause that is a conflict or sets its one unset literal. Its number tells which: at 0 all its literals are false.
+    pub fn next_act(
+        &self,
+        values: &Values,
+        store: &ClauseStore,
+        given: usize,
+        goals: usize,
+        clauses: usize,
+    ) -> UnitAct
+        requires { (goals ≤ 256) × ClausesFit store.now.starts store.now.literals store.now.heads given clauses
+            × ((rows : List ℕ) × (counters rows self.now.counts self.now.asking
+            ≡ counters_of values.now (λ c. clause_at store.now.starts store.now.literals c) clauses)) }
+        ensures { result ≡ act_from values.now store.now.starts store.now.literals store.now.heads given goals 0 clauses }
+    {
+        let read = Clauses {
+            values,
+            store,
+            given,
+            goals,
+        };
+        let mut from = 0;
+        while let Some(c) = sets::first_between(&self.asking, from, clauses) {
+            if self.counts[c] == 0 {
                 return UnitAct::Conflict;
             }
-            UnitAct::Force(w) => {
+            if let Some(w) = read.forced(c) {
                 return UnitAct::Force(w);
             }
-            UnitAct::Nothing => {}
+            from = c + 1;
         }
-        let next = c + 1;
-        c = next_asking(asking, next, clauses);
+        UnitAct::Nothing
     }
-    UnitAct::Nothing
 }

@@ -1,68 +1,46 @@
 // Setting and undoing a literal: the counters of the clauses that hold it or its negation. The values are set elsewhere.
-ghost use Rattle.std.specs.Prelude.{◌-◌, ◌≤◌, ◌<◌, take, drop};
+ghost use Rattle.std.specs.Prelude.{◌≡◌, ◌+◌, ◌-◌, ◌/◌, ◌≤◌, ◌<◌, take, drop};
 ghost use Rattle.encoding.specs.Values.{Values, assigned, unassigned};
 ghost use Rattle.units.specs.TrailWords.{cleared};
-ghost use Rattle.counters.specs.Counters.{counters_now, lent_counters, counts_now, lent_counts};
 ghost use Rattle.counters.specs.Setting.{CountersFit, IsUnset, IsSet, StayKept};
 ghost use Rattle.counters.specs.Undoing.{Undoable};
 
-use crate::{PLACES, ROWS, WORDS, passes};
-use encoding::{ATOMS, values};
+use crate::Counters;
+use encoding::values;
+use units::trail::Trail;
 
-// The literal of an unset atom becomes true.
-pub fn count_set(
-    rows: &[u64; ROWS],
-    counts: &mut [u32; PLACES],
-    asking: &mut [u64; WORDS],
-    words: usize,
-    w: u16,
-)
-    requires { (w < 512) × (words ≤ 10) × ((values : Values) × IsUnset values w × CountersFit values words (counts_now rows counts asking)) }
-    ensures { (values : Values) → IsUnset values w
-        → StayKept words values (lent_counts rows counts asking).entry (assigned values w) (lent_counts rows counts asking).exit }
-{
-    let other = values::other_sign(w);
-    passes::over_row(rows, counts, asking, w, words, 256, 0);
-    passes::over_row(rows, counts, asking, other, words, 0, 1);
-}
+impl Counters {
+    // The literal of an unset atom becomes true.
+    pub fn set(&mut self, clauses: usize, w: u16)
+        requires { (w < 512) × (clauses ≤ 640) × ((values : Values) × IsUnset values w × CountersFit values ((clauses + 63) / 64) self.old) }
+        ensures { (values : Values) → IsUnset values w → StayKept ((clauses + 63) / 64) values self.old (assigned values w) self.new }
+    {
+        let words = (clauses + 63) / 64;
+        let other = values::other_sign(w);
+        self.over_row(w, words, 256, 0);
+        self.over_row(other, words, 0, 1);
+    }
 
-// The literal of an atom that is set as it says becomes unset.
-pub fn count_undo(
-    rows: &[u64; ROWS],
-    counts: &mut [u32; PLACES],
-    asking: &mut [u64; WORDS],
-    words: usize,
-    w: u16,
-)
-    requires { (w < 512) × (words ≤ 10) × ((values : Values) × IsSet values w × CountersFit values words (counts_now rows counts asking)) }
-    ensures { (values : Values) → IsSet values w
-        → StayKept words values (lent_counts rows counts asking).entry (unassigned values w) (lent_counts rows counts asking).exit }
-{
-    let other = values::other_sign(w);
-    passes::over_row(rows, counts, asking, other, words, 1, 0);
-    passes::over_row(rows, counts, asking, w, words, 0, 256);
-}
+    // The literal of an atom that is set as it says becomes unset.
+    pub fn undo(&mut self, clauses: usize, w: u16)
+        requires { (w < 512) × (clauses ≤ 640) × ((values : Values) × IsSet values w × CountersFit values ((clauses + 63) / 64) self.old) }
+        ensures { (values : Values) → IsSet values w → StayKept ((clauses + 63) / 64) values self.old (unassigned values w) self.new }
+    {
+        let words = (clauses + 63) / 64;
+        let other = values::other_sign(w);
+        self.over_row(other, words, 1, 0);
+        self.over_row(w, words, 0, 256);
+    }
 
-// Undoes the entries of the trail from one place up to another.
-pub fn undo_counts(
-    rows: &[u64; ROWS],
-    counts: &mut [u32; PLACES],
-    asking: &mut [u64; WORDS],
-    words: usize,
-    trail: &[u16; ATOMS],
-    from: usize,
-    n: usize,
-)
-    requires { (from ≤ n) × (n ≤ 256) × (words ≤ 10)
-        × ((values : Values) × Undoable values trail.now from n × CountersFit values words (counts_now rows counts asking)) }
-    ensures { (values : Values) → Undoable values trail.now from n
-        → StayKept words values (lent_counts rows counts asking).entry
-        (cleared values (take (n - from) (drop from trail.now))) (lent_counts rows counts asking).exit }
-{
-    let mut i = from;
-    while i < n {
-        let w = trail[i];
-        count_undo(rows, counts, asking, words, w);
-        i += 1;
+    // Undoes the entries of the trail from one place up to another.
+    pub fn undo_entries(&mut self, clauses: usize, trail: &Trail, from: usize, n: usize)
+        requires { (from ≤ n) × (n ≤ 256) × (clauses ≤ 640)
+            × ((values : Values) × Undoable values trail.now.words from n × CountersFit values ((clauses + 63) / 64) self.old) }
+        ensures { (values : Values) → Undoable values trail.now.words from n
+            → StayKept ((clauses + 63) / 64) values self.old (cleared values (take (n - from) (drop from trail.now.words))) self.new }
+    {
+        for at in from..n {
+            self.undo(clauses, trail.words[at]);
+        }
     }
 }

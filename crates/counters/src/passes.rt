@@ -5,20 +5,19 @@ ghost use Rattle.counters.specs.Weights.{one_if};
 ghost use Rattle.counters.specs.PlacesKept.{Moved};
 ghost use Rattle.counters.specs.Passes.{WordFits, RowFits, WordMoved, first_of};
 
-use crate::{PLACES, ROWS, WORDS};
+use crate::{Counters, PLACES, WORDS};
 use bits::long;
 
 // The bit, if the number is that of a clause that asks.
+#[tactic(auto, unfolding(crate::specs::Counters::number_asks, crate::specs::Weights::one_if))]
 pub fn asking_bit(n: u32, bit: u64) -> u64
     ensures { (result ≡ one_if (number_asks n) bit) × (result ≤ bit) }
 {
-    if 1 < n {
-        return 0;
-    }
-    bit
+    if n <= 1 { bit } else { 0 }
 }
 
-// Changes the numbers of the clauses that are bits of word k, and gives those that ask then.
+// Changes the numbers of the clauses that are bits of word k, and gives those that ask then. It goes from bit to bit by the low zeros, which
+// no iterator does.
 fn over_word(counts: &mut [u32; PLACES], k: usize, bits: u64, up: u32, down: u32) -> u64
     requires { (k < 10) × (bits < 2 ^ 64) × (length counts.old ≡ 640) × WordFits k bits up down counts.old }
     ensures { WordMoved k bits result up down counts.old counts.new }
@@ -37,31 +36,22 @@ fn over_word(counts: &mut [u32; PLACES], k: usize, bits: u64, up: u32, down: u32
     low
 }
 
-// Changes the numbers of the clauses that hold literal x, in the first words.
-pub fn over_row(
-    rows: &[u64; ROWS],
-    counts: &mut [u32; PLACES],
-    asking: &mut [u64; WORDS],
-    x: u16,
-    words: usize,
-    up: u32,
-    down: u32,
-)
-    requires { RowFits x words up down rows.now counts.old asking.old }
-    ensures { Moved (first_of rows.now x words) up down counts.old asking.old counts.new asking.new }
-{
-    let first = 10 * encoding::wide(x);
-    let mut k: usize = 0;
-    while k < words {
-        let at = first + k;
-        let bits = long::word(rows[at]);
-        if bits == 0 {
-            k += 1;
-            continue;
+impl Counters {
+    // Changes the numbers of the clauses that hold literal x, in the first words of its row.
+    pub fn over_row(&mut self, x: u16, words: usize, up: u32, down: u32)
+        requires { RowFits x words up down self.old.rows self.old.counts self.old.asking }
+        ensures { (self.new.rows ≡ self.old.rows)
+            × Moved (first_of self.old.rows x words) up down self.old.counts self.old.asking self.new.counts self.new.asking }
+    {
+        let first = WORDS * usize::from(x);
+        for k in 0..words {
+            let bits = self.rows[first + k];
+            if bits == 0 {
+                continue;
+            }
+            let low = over_word(&mut self.counts, k, bits, up, down);
+            let asking = self.asking[k];
+            self.asking[k] = (asking - (asking & bits)) | low;
         }
-        let low = over_word(counts, k, bits, up, down);
-        let a = asking[k];
-        asking[k] = (a - (a & bits)) | low;
-        k += 1;
     }
 }

@@ -13,24 +13,16 @@ pub fn atom_code(symbol: usize, a: usize, b: usize, c: usize) -> usize
 }
 
 // Whether the word stands among the terms of the slots.
+#[tactic(auto, unfolding(crate::specs::Slots::has_term))]
 pub fn has_term(slots: &[u16], v: u16) -> bool
     ensures { result ≡ has_term v slots.now }
 {
-    let mut at: usize = 0;
-    while at + 3 < slots.len() {
-        let a = at + 1;
-        let b = at + 2;
-        let c = at + 3;
-        if slots[a] == v {
+    let mut left = slots;
+    while let [_, a, b, c, rest @ ..] = left {
+        if *a == v || *b == v || *c == v {
             return true;
         }
-        if slots[b] == v {
-            return true;
-        }
-        if slots[c] == v {
-            return true;
-        }
-        at += 4;
+        left = rest;
     }
     false
 }

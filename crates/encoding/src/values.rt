@@ -3,7 +3,6 @@
 ghost use Rattle.std.specs.Prelude.{◌≡◌, ◌/◌, ◌<◌, ◌^◌, eqb};
 ghost use Rattle.encoding.specs.Values.{goals_set, bit_in, state_of, value_at, unset_at, word_sign, other_sign, literal_value, true_word, false_word, store_bit, put_state, assigned, unassigned};
 
-use crate::wide;
 use bits::long;
 
 pub type Values = [u64; STATE_WORDS];
@@ -21,7 +20,7 @@ fn atom_position(w: u16) -> usize
     requires { w < 512 }
     ensures { (result ≡ w / 2) × (result < 256) }
 {
-    wide(w) / 2
+    usize::from(w / 2)
 }
 
 // A literal's sign: 1, or -1 where it is negated.
@@ -106,7 +105,7 @@ pub fn is_unset(values: &Values, at: usize) -> bool
 pub fn goals_set(values: &Values) -> u64
     ensures { (result ≡ goals_set values.now) × (result < 2 ^ 64) }
 {
-    long::word(values[0])
+    values[0]
 }
 
 // Replaces a bit of one of the words, by 0 or 1.

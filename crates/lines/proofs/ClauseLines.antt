@@ -1,72 +1,55 @@
 -- Lines of kind 4: what the tests of the words and the slots say of the questions, and that the clause enters by its slots.
-use Prim.Native.Nat.{ℕ, ◌+◌, ◌*◌, ◌/◌, ◌<◌, ◌≤◌}
-use mathlib.Core.Path.{◌≡◌, refl, sym, ◌∙◌, ap}
-use mathlib.Core.Bool.{true, false}
+use Prim.Native.Nat.{ℕ, ◌+◌, ◌*◌, ◌<◌, ◌≤◌}
+use mathlib.Core.Path.{◌≡◌, sym, ◌∙◌, ap}
+use mathlib.Core.Bool.{false}
 use mathlib.Core.List.{List, [], map}
 use native.Mathlib.Omega.{arith}
-use lib.ListN.{length, get_or, set, take, drop, length-map}
+use lib.ListN.{length, set, take, drop, length-map}
 use borrow.Author.Tests.{lt-ltb, le-leb, lt-leb}
 use Rattle.definitions.specs.Lists.{is_empty}
 use Rattle.definitions.specs.Words.{Clause, Pattern}
 use Rattle.definitions.specs.Instances.{ground}
 use Rattle.definitions.specs.Sheet.{Number}
-use Rattle.definitions.specs.Questions.{Asked, no, yes, ◌>>=◌, ◌>>◌, ask, Parsed, within, literals, pattern_of, clause_count, clause_behind, clause_asked}
+use Rattle.definitions.specs.Questions.{Asked, no, yes, ◌>>=◌, ◌>>◌, ask, Parsed, count, literals, pattern_of, clause_count, clause_behind, clause_asked}
 use Rattle.theory.specs.ListLaws.{Each}
 use Rattle.theory.specs.AskedLaws.{by-asked}
-use Rattle.theory.specs.Limits.{within-between}
-use Rattle.encoding.specs.Signs.{number_of, numbers}
+use Rattle.encoding.specs.Signs.{number_of}
 use Rattle.literals.specs.SlotReads.{argument, SlotsRead}
 use Rattle.encoding.specs.Slots.{slot_words}
 use Rattle.literals.specs.SlotReadLaws.{literals-length, clause-literals, PatternRead, patterns-read}
 use Rattle.literals.specs.Entering.{ClauseSlots, Entered, entered, enter_slots}
-use Rattle.lines.specs.LineReads.{more_clauses, clause_entered, clause_answer, ClauseRead}
+use Rattle.lines.specs.LineReads.{Refuses, more_clauses, clause_entered, clause_answer, ClauseRead}
 use Rattle.encoding.specs.declared.Sizes.{Sizes}
-use Rattle.lines.specs.declared.LineRead.{LineRead}
-use Rattle.lines.specs.declared.LineRead.TheVariants.{No, Yes}
-use Rattle.lines.proofs.CountColumns.{count-missing, count-out, count-in}
+use Rattle.std.specs.Prelude.{Result, Ok, Err}
+use Rattle.std.proofs.Common.{Bor}
+use Rattle.definitions.specs.Numbered.{question_number}
+use Rattle.definitions.specs.declared.Question.{Question}
+use Rattle.definitions.specs.declared.Question.TheVariants.{Goals}
 use Rattle.lines.proofs.SlotWalks.{SlotsWalked, slots-refused, slots-walked, left_over, none_left, words-front}
 use Rattle.literals.specs.ReadClauseLaws.{slots-limits, enter-front, patterns-kept}
 
 -- a line that is refused leaves the arrays free
-pub clause-refused : {m : Asked Clause} {q : ℕ} (s : Sizes) (a b c d e f g h : List ℕ) → m ≡ no q → ClauseRead m (No q) s a b c d e f g h
-clause-refused s a b c d e f g h p = rw p refl
+pub clause-refused : {m : Asked Clause} {q : ℕ} (r : Result Sizes Question) (s : Sizes) (a b c d e f g h : List ℕ) → m ≡ no q → Refuses r q → ClauseRead m r s a b c d e f g h
+clause-refused r s a b c d e f g h p n = rw p n
 
 -- ── the count ──
 
-abbrev pub clause_of_row : ℕ → List ℕ → ℕ → List ℕ → ℕ → Asked Clause
-clause_of_row n row constants arities clauses = clause_asked constants arities clauses (drop 1 (numbers n row))
+abbrev pub clause_of_row : List ℕ → ℕ → List ℕ → ℕ → Asked Clause
+clause_of_row line constants arities clauses = clause_asked constants arities clauses (drop 1 (map number_of line))
 
-module _ (n : ℕ) (row : List ℕ) (constants : ℕ) (arities : List ℕ) (clauses : ℕ) where
-  pub literals-missing : n < 2 → clause_of_row n row constants arities clauses ≡ no 8
+module _ (line : List ℕ) (constants : ℕ) (arities : List ℕ) (clauses : ℕ) where
+  pub clause-uncounted : {q : ℕ} → count 8 0 8 (drop 1 (map number_of line)) ≡ no q → clause_of_row line constants arities clauses ≡ no q
   unfolding clause_asked clause_count ◌>>=◌
-  literals-missing h = rw (count-missing n row 1 8 0 8 (omega arith))
+  clause-uncounted e = rw e
 
-  module _ (fits : n ≤ length row) (two : 2 ≤ n) where
-    pub literals-out : within 0 8 (number_of (get_or row 1 0)) ≡ false → clause_of_row n row constants arities clauses ≡ no 8
-    unfolding clause_asked clause_count ◌>>=◌
-    literals-out h = rw (count-out n row 1 8 0 8 fits (omega arith) h)
+  module _ {n : ℕ} (read : count 8 0 8 (drop 1 (map number_of line)) ≡ yes (record { found = n; left = drop 2 (map number_of line) })) where
+    pub clauses-full : clauses ≡ 64 → clause_of_row line constants arities clauses ≡ no 9
+    unfolding clause_asked clause_count ask ◌>>=◌ ◌>>◌
+    clauses-full h = rw (read, h)
 
-    module _ (read : within 0 8 (number_of (get_or row 1 0)) ≡ true) where
-      pub clauses-full : clauses ≡ 64 → clause_of_row n row constants arities clauses ≡ no 9
-      unfolding clause_asked clause_count ask ◌>>=◌ ◌>>◌
-      clauses-full h = rw (count-in n row 1 8 0 8 fits (omega arith) read, h)
-
-      clause-counted : clauses < 64
-          → clause_of_row n row constants arities clauses ≡ clause_behind constants arities (record { found = get_or row 1 0 / 2; left = drop 2 (numbers n row) })
-      unfolding clause_asked clause_count ask ◌>>=◌ ◌>>◌
-      clause-counted h = rw (count-in n row 1 8 0 8 fits (omega arith) read, lt-ltb clauses 64 h)
-
--- the count is read, and there is room for a clause
-pub record ClauseCounted (n : ℕ) (row : List ℕ) (s : Sizes) (first : ℕ) : Type 0 where
-  pub fits : n ≤ length row
-  pub two : 2 ≤ n
-  pub read : within 0 8 (number_of (get_or row 1 0)) ≡ true
-  pub room : s.clauses < 64
-  pub word : first ≡ get_or row 1 0
-
-pub clause-few : {n : ℕ} {row : List ℕ} {s : Sizes} {first : ℕ} → ClauseCounted n row s first → first / 2 ≤ 8
-unfolding number_of
-clause-few k = rw k.word (omega (arith, within-between 0 8 _ k.read))
+    clause-counted : clauses < 64 → clause_of_row line constants arities clauses ≡ clause_behind constants arities (record { found = n; left = drop 2 (map number_of line) })
+    unfolding clause_asked clause_count ask ◌>>=◌ ◌>>◌
+    clause-counted h = rw (read, lt-ltb clauses 64 h)
 
 -- ── the literals ──
 
@@ -82,65 +65,65 @@ grounded constants arities k ns =
     rw (clause-literals constants arities k ns)
     (by-asked (literals (argument false constants) pattern_of arities k ns) (λ q e. cc) (λ w e. cc))
 
-module _ (n : ℕ) (row : List ℕ) (s : Sizes) (arities : List ℕ) (first next : ℕ) (before after : List ℕ) (k : ClauseCounted n row s first)
-    (r : SlotsRead (literals (argument false s.constants) pattern_of arities (first / 2) (drop 2 (numbers n row))) n next before after) where
-  behind-count : clause_of_row n row s.constants arities s.clauses ≡ clause_from (literals (argument false s.constants) pattern_of arities (first / 2) (drop 2 (numbers n row)))
-  behind-count =
-      clause-counted n row s.constants arities s.clauses k.fits k.two k.read k.room
-      ∙ rw (← k.word) (grounded s.constants arities (first / 2) (drop 2 (numbers n row)))
+module _ (line : List ℕ) (s : Sizes) (arities : List ℕ) (n : ℕ) (before after : List ℕ)
+    (counted : count 8 0 8 (drop 1 (map number_of line)) ≡ yes (record { found = n; left = drop 2 (map number_of line) })) (room : s.clauses < 64) where
+  abbrev all_literals : Asked (Parsed (List Pattern))
+  all_literals = literals (argument false s.constants) pattern_of arities n (drop 2 (map number_of line))
 
-  pub clause-unread : next ≡ 0 → clause_of_row n row s.constants arities s.clauses ≡ no 10
+  behind-count : clause_of_row line s.constants arities s.clauses ≡ clause_from all_literals
+  behind-count = clause-counted line s.constants arities s.clauses counted room ∙ grounded s.constants arities n (drop 2 (map number_of line))
+
+  pub clause-unread : (e : Question) → SlotsRead all_literals (Err e) before after → clause_of_row line s.constants arities s.clauses ≡ no (question_number e)
   unfolding clause_from
-  clause-unread h =
-      rw (behind-count, slots-refused false _ _ n row 2 _ next before after k.fits (omega arith) k.two r h)
+  clause-unread e r = rw (behind-count, slots-refused false _ _ n _ before after e r)
 
-  module _ (read : next ≡ 0 → ⊥) where
-    walked : SlotsWalked (literals (argument false s.constants) pattern_of arities (first / 2) (drop 2 (numbers n row))) n next before after
-    walked = slots-walked false _ _ n row 2 _ next before after k.fits (omega arith) k.two r read
+  module _ (words : Bor (List ℕ)) (r : SlotsRead all_literals (Ok words) before after) where
+    walked : SlotsWalked all_literals words.now before after
+    walked = slots-walked false _ _ n _ before after words r
 
-    pub clause-over : next < n → clause_of_row n row s.constants arities s.clauses ≡ no 11
+    pub clause-over : (length words.now ≡ 0 → ⊥) → clause_of_row line s.constants arities s.clauses ≡ no 11
     unfolding ask ◌>>◌ clause_from
-    clause-over h = rw (behind-count, walked.read, left_over walked.walk.left walked.columns h)
+    clause-over h = rw (behind-count, walked.read, left_over words.now walked.walk.left walked.columns h)
 
     clause : Clause
     clause = map (ground []) walked.walk.found
 
-    clause-found : n ≤ next → clause_of_row n row s.constants arities s.clauses ≡ yes clause
+    clause-found : length words.now ≡ 0 → clause_of_row line s.constants arities s.clauses ≡ yes clause
     unfolding ask ◌>>◌ clause_from clause
-    clause-found h = rw (behind-count, walked.read, none_left walked.walk.left walked.columns h)
+    clause-found h = rw (behind-count, walked.read, none_left words.now walked.walk.left walked.columns h)
 
-    found-count : length walked.walk.found ≡ first / 2
-    found-count = literals-length (argument false s.constants) pattern_of arities (first / 2) (drop 2 (numbers n row)) walked.walk walked.read
+    found-count : length walked.walk.found ≡ n
+    found-count = literals-length (argument false s.constants) pattern_of arities n (drop 2 (map number_of line)) walked.walk walked.read
 
-    clause-count : length clause ≡ first / 2
+    clause-count : length clause ≡ n
     unfolding clause
     clause-count = length-map walked.walk.found (ground []) ∙ found-count
 
     found-read : Each (PatternRead false s.constants arities) walked.walk.found
-    found-read = patterns-read false s.constants arities (first / 2) (drop 2 (numbers n row)) walked.walk walked.read
+    found-read = patterns-read false s.constants arities n (drop 2 (map number_of line)) walked.walk walked.read
 
-    module _ (slots : 32 ≤ length before) where
-      words : take (4 * (first / 2)) after ≡ slot_words walked.walk.found
-      words = words-front before walked.walk.found walked.words (first / 2) found-count (omega (arith, clause-few k))
+    module _ (few : n ≤ 8) (slots : 32 ≤ length before) where
+      words-in : take (4 * n) after ≡ slot_words walked.walk.found
+      words-in = words-front before walked.walk.found walked.words n found-count (omega arith)
 
-      pub clause-slots : s.constants ≤ 32 → length arities ≤ 16 → ClauseSlots after (first / 2)
-      clause-slots few declared = slots-limits s.constants few arities declared walked.walk.found found-read after (first / 2) found-count words
+      pub clause-slots : s.constants ≤ 32 → length arities ≤ 16 → ClauseSlots after n
+      clause-slots constants declared = slots-limits s.constants constants arities declared walked.walk.found found-read after n found-count words-in
 
-      module _ (whole : n ≤ next) (atoms : ℕ) (literals₀ table₀ index₀ literals₁ table₁ index₁ : List ℕ)
-          (state : entered atoms (s.literals + first / 2) literals₁ table₁ index₁ ≡ enter_slots after 0 (first / 2) (entered s.atoms s.literals literals₀ table₀ index₀)) where
+      module _ (whole : length words.now ≡ 0) (atoms : ℕ) (literals₀ table₀ index₀ literals₁ table₁ index₁ : List ℕ)
+          (state : entered atoms (s.literals + n) literals₁ table₁ index₁ ≡ enter_slots after 0 n (entered s.atoms s.literals literals₀ table₀ index₀)) where
         abbrev result : Entered
-        result = entered atoms (s.literals + first / 2) literals₁ table₁ index₁
+        result = entered atoms (s.literals + n) literals₁ table₁ index₁
 
         clause-enters : clause_entered clause s literals₀ table₀ index₀ ≡ result
         unfolding clause_entered clause
         clause-enters =
             rw (clause-count, patterns-kept s.constants arities walked.walk.found found-read)
-            (sym (state ∙ enter-front after (slot_words walked.walk.found) (first / 2) _ words))
+            (sym (state ∙ enter-front after (slot_words walked.walk.found) n _ words-in))
 
         module _ (starts : List ℕ) where
-          clause-held : (a : LineRead) → a ≡ clause_answer result s
-              → ClauseRead (clause_of_row n row s.constants arities s.clauses) a s
-              starts (set starts (s.clauses + 1) (s.literals + first / 2)) literals₀ literals₁ table₀ table₁ index₀ index₁
+          clause-held : (a : Result Sizes Question) → a ≡ clause_answer result s
+              → ClauseRead (clause_of_row line s.constants arities s.clauses) a s
+              starts (set starts (s.clauses + 1) (s.literals + n)) literals₀ literals₁ table₀ table₁ index₀ index₁
           clause-held a e =
               let same = sym clause-enters in
               rw (clause-found whole)
@@ -153,13 +136,13 @@ module _ (n : ℕ) (row : List ℕ) (s : Sizes) (arities : List ℕ) (first next
               })
 
           pub clause-many : 64 < atoms
-              → ClauseRead (clause_of_row n row s.constants arities s.clauses) (No 13) s
-              starts (set starts (s.clauses + 1) (s.literals + first / 2)) literals₀ literals₁ table₀ table₁ index₀ index₁
+              → ClauseRead (clause_of_row line s.constants arities s.clauses) (Err Goals) s
+              starts (set starts (s.clauses + 1) (s.literals + n)) literals₀ literals₁ table₀ table₁ index₀ index₁
           unfolding clause_answer
-          clause-many h = clause-held (No 13) (cc (lt-leb atoms 64 h))
+          clause-many h = clause-held (Err Goals) (cc (lt-leb atoms 64 h))
 
           pub clause-read : atoms ≤ 64
-              → ClauseRead (clause_of_row n row s.constants arities s.clauses) (Yes (more_clauses result s)) s
-              starts (set starts (s.clauses + 1) (s.literals + first / 2)) literals₀ literals₁ table₀ table₁ index₀ index₁
+              → ClauseRead (clause_of_row line s.constants arities s.clauses) (Ok (more_clauses result s)) s
+              starts (set starts (s.clauses + 1) (s.literals + n)) literals₀ literals₁ table₀ table₁ index₀ index₁
           unfolding clause_answer
-          clause-read h = clause-held (Yes (more_clauses result s)) (cc (le-leb atoms 64 h))
+          clause-read h = clause-held (Ok (more_clauses result s)) (cc (le-leb atoms 64 h))

@@ -1,47 +1,32 @@
--- A count in a column of a row: it is missing, out of range, or what the word says; and whether columns are left.
-use Prim.Native.Nat.{ℕ, suc, ◌/◌, ◌<◌, ◌≤◌}
-use mathlib.Core.Path.{◌≡◌}
-use mathlib.Core.Bool.{true, false}
-use mathlib.Core.List.{List}
-use lib.Dec.{ltb}
-use lib.ListN.{length, get_or, drop}
-use borrow.Author.Tests.{ltb-true, ltb-false}
+-- The columns of a line from one on: whether some are left, what refuses a line, and the words that hold them. Assumes nothing.
+use Rattle.std.specs.Prelude.{ℕ, zero, suc, ◌-◌, ◌≤◌, ◌<◌, ◌≡◌, true, false, List, [], ◌∷◌, Result, Ok, Err, IsErrAnd, map, length, take, drop}
+use Rattle.std.proofs.Common.{arith, ap, ◌∙◌, refl}
+use Rattle.std.proofs.Math.ListN.{length-drop, length-map}
+use Rattle.std.proofs.Math.Seq.{take_all}
 use Rattle.definitions.specs.Lists.{is_empty}
-use Rattle.definitions.specs.Questions.{no, yes, ◌>>◌, ask, within, count}
-use Rattle.theory.specs.Tests.{by-test}
-use Rattle.encoding.specs.Signs.{number_of, numbers}
-use Rattle.rows.specs.RowLaws.{numbers-cons, numbers-end}
+use Rattle.definitions.specs.Numbered.{question_number}
+use Rattle.definitions.specs.declared.Question.{Question}
+use Rattle.theory.specs.ListLaws.{none-empty, some-full}
+use Rattle.encoding.specs.Signs.{number_of}
+use Rattle.lines.specs.LineReads.{Refuses}
 
-module _ (n : ℕ) (row : List ℕ) (i : ℕ) where
-  pub no-column : n ≤ i → is_empty (drop i (numbers n row)) ≡ true
-  unfolding is_empty
-  no-column h = rw (numbers-end n row i h)
+module _ (line : List ℕ) (i : ℕ) where
+  pub no-column : length line ≤ i → is_empty (drop i (map number_of line)) ≡ true
+  no-column h = none-empty (drop i (map number_of line)) (omega (arith, length-drop i (map number_of line), length-map line number_of))
 
-  pub some-column : n ≤ length row → i < n → is_empty (drop i (numbers n row)) ≡ false
-  unfolding is_empty
-  some-column fits h = rw (numbers-cons n row i fits h)
+  pub some-column : i < length line → is_empty (drop i (map number_of line)) ≡ false
+  some-column h = some-full (drop i (map number_of line)) (λ z. omega (arith, length-drop i (map number_of line), length-map line number_of))
 
-  module _ (q low high : ℕ) where
-    pub count-missing : n ≤ i → count q low high (drop i (numbers n row)) ≡ no q
-    unfolding count
-    count-missing h = rw (numbers-end n row i h)
+drop-numbers : (i : ℕ) (line : List ℕ) → map number_of (drop i line) ≡ drop i (map number_of line)
+drop-numbers zero line = refl
+drop-numbers (suc i) [] = refl
+drop-numbers (suc i) (w ∷ line) = drop-numbers i line
 
-    module _ (fits : n ≤ length row) (there : i < n) where
-      pub count-out : within low high (number_of (get_or row i 0)) ≡ false → count q low high (drop i (numbers n row)) ≡ no q
-      unfolding count ask ◌>>◌
-      count-out h = rw (numbers-cons n row i fits there, h)
+-- the words from a column on hold the numbers from there on
+pub words-from : (i : ℕ) (line : List ℕ) → map number_of (take (length line - i) (drop i line)) ≡ drop i (map number_of line)
+words-from i line = ap (map number_of) (take_all (length line - i) (drop i line) (omega (arith, length-drop i line))) ∙ drop-numbers i line
 
-      pub count-in : within low high (number_of (get_or row i 0)) ≡ true
-          → count q low high (drop i (numbers n row)) ≡ yes (record { found = get_or row i 0 / 2; left = drop (suc i) (numbers n row) })
-      unfolding count ask ◌>>◌ number_of
-      count-in h = rw (numbers-cons n row i fits there, h)
-
--- either way, a count is refused by its own question
-pub by_count : {P : Type 0} (n : ℕ) (row : List ℕ) (i q low high : ℕ) → n ≤ length row → (count q low high (drop i (numbers n row)) ≡ no q → P)
-    → (i < n → count q low high (drop i (numbers n row)) ≡ yes (record { found = get_or row i 0 / 2; left = drop (suc i) (numbers n row) }) → P) → P
-by_count n row i q low high fits refused found =
-    by-test (ltb i n)
-    (λ there. by-test (within low high (number_of (get_or row i 0)))
-    (λ t. found (ltb-true i n there) (count-in n row i q low high fits (ltb-true i n there) t))
-    (λ t. refused (count-out n row i q low high fits (ltb-true i n there) t)))
-    (λ none. refused (count-missing n row i q low high (ltb-false i n none)))
+-- a question that is handed on is the one that was answered no
+pub handed : {A : Type 0} (r : Result A Question) (e : Question) → IsErrAnd r (λ d. d ≡ e) → {q : ℕ} → question_number e ≡ q → Refuses r q
+handed (Ok x) e same n = absurd same
+handed (Err d) e same n = ap question_number same ∙ n

@@ -1,10 +1,10 @@
 -- What the reader of slots leaves: a refusal by question 10, or a walk whose literals stand as words at the front of the slots.
-use Prim.Native.Nat.{ℕ, ◌+◌, ◌*◌, ◌<◌, ◌≤◌}
-use mathlib.Core.Path.{◌≡◌, ◌∙◌, ap}
+use Prim.Native.Nat.{ℕ, ◌+◌, ◌*◌, ◌≤◌}
+use mathlib.Core.Path.{◌≡◌, ◌∙◌, ap, sym}
 use mathlib.Core.Bool.{Bool, true, false}
 use mathlib.Core.List.{List, ◌++◌, append_assoc}
 use native.Mathlib.Omega.{arith}
-use lib.ListN.{length, take, drop, length-append, length-drop}
+use lib.ListN.{length, take, drop, length-append, length-map}
 use lib.Seq.{sets, take_at, drop_at}
 use Rattle.definitions.specs.Lists.{is_empty}
 use Rattle.definitions.specs.Words.{Pattern}
@@ -13,49 +13,50 @@ use Rattle.definitions.specs.Questions.{Asked, no, yes, Parsed, literals, patter
 use Rattle.theory.specs.AskedLaws.{by-asked}
 use Rattle.theory.specs.ListLaws.{none-empty, some-full}
 use Rattle.column.specs.Sets.{sets-front, sets-taken}
-use Rattle.encoding.specs.Signs.{numbers}
-use Rattle.rows.specs.RowLaws.{numbers-length}
+use Rattle.std.specs.Prelude.{Result, Ok, Err, map}
+use Rattle.std.proofs.Common.{Bor}
+use Rattle.definitions.specs.Numbered.{question_number}
+use Rattle.definitions.specs.declared.Question.{Question}
+use Rattle.definitions.specs.declared.Question.TheVariants.{Literals}
+use Rattle.encoding.specs.Signs.{number_of}
 use Rattle.literals.specs.SlotReads.{argument, SlotsRead}
 use Rattle.encoding.specs.Slots.{slot_words}
-use Rattle.literals.specs.SlotReadLaws.{literals-fewer, literals-refusal}
+use Rattle.literals.specs.SlotReadLaws.{literals-refusal}
 use Rattle.encoding.specs.SlotLaws.{slot_words-length, slot_words-append}
 
 -- ── a walk that is refused or not ──
 
--- the walk, the next column behind it, and its words in the slots
-pub record SlotsWalked (m : Asked (Parsed (List Pattern))) (n next : ℕ) (before after : List ℕ) : Type 0 where
+-- the walk, the words that are left behind it, and its words in the slots
+pub record SlotsWalked (m : Asked (Parsed (List Pattern))) (left before after : List ℕ) : Type 0 where
   pub walk : Parsed (List Pattern)
   pub read : m ≡ yes walk
-  pub columns : next + length walk.left ≡ n
+  pub columns : map number_of left ≡ walk.left
   pub words : after ≡ sets before 0 (slot_words walk.found)
 
-module _ (rule : Bool) (constants : ℕ) (arities : List ℕ) (n : ℕ) (row : List ℕ) (from count next : ℕ) (before after : List ℕ)
-    (fits : n ≤ length row) (first : 1 ≤ from) (there : from ≤ n)
-    (r : SlotsRead (literals (argument rule constants) pattern_of arities count (drop from (numbers n row))) n next before after) where
-  -- so many columns are left that the next one is none of the first
-  walk-columns : (w : Parsed (List Pattern)) → literals (argument rule constants) pattern_of arities count (drop from (numbers n row)) ≡ yes w
-      → next + length w.left ≡ n → next ≡ 0 → ⊥
-  walk-columns w e columns h =
-      omega (arith, literals-fewer (argument rule constants) pattern_of arities count (drop from (numbers n row)) w e, length-drop from (numbers n row), numbers-length n row fits)
+module _ (rule : Bool) (constants : ℕ) (arities : List ℕ) (count : ℕ) (ns : List Number) (before after : List ℕ) where
+  pub slots-refused : (e : Question) → SlotsRead (literals (argument rule constants) pattern_of arities count ns) (Err e) before after
+      → literals (argument rule constants) pattern_of arities count ns ≡ no (question_number e)
+  slots-refused e r =
+      by-asked (literals (argument rule constants) pattern_of arities count ns)
+      (λ q f.
+      let g : ◌≡◌ {A = Result (Bor (List ℕ)) Question} (Err e) (Err Literals) = rw f at r in
+      let h : e ≡ Literals = cc in
+      f ∙ ap no (literals-refusal rule constants pattern_of arities count ns q f ∙ ap question_number (sym h)))
+      (λ w f. absurd (rw f at r).0)
 
-  pub slots-refused : next ≡ 0 → literals (argument rule constants) pattern_of arities count (drop from (numbers n row)) ≡ no 10
-  slots-refused h =
-      by-asked (literals (argument rule constants) pattern_of arities count (drop from (numbers n row)))
-      (λ q e. e ∙ ap no (literals-refusal rule constants pattern_of arities count (drop from (numbers n row)) q e))
-      (λ w e. let s = rw e at r in absurd (walk-columns w e s.0 h))
+  pub slots-walked : (words : Bor (List ℕ)) → SlotsRead (literals (argument rule constants) pattern_of arities count ns) (Ok words) before after
+      → SlotsWalked (literals (argument rule constants) pattern_of arities count ns) words.now before after
+  slots-walked words r =
+      by-asked (literals (argument rule constants) pattern_of arities count ns)
+      (λ q f. let g : ◌≡◌ {A = Result (Bor (List ℕ)) Question} (Ok words) (Err Literals) = rw f at r in cc)
+      (λ w f. let s = rw f at r in record { walk = w; read = f; columns = s.0; words = s.1 })
 
-  pub slots-walked : (next ≡ 0 → ⊥) → SlotsWalked (literals (argument rule constants) pattern_of arities count (drop from (numbers n row))) n next before after
-  slots-walked h =
-      by-asked (literals (argument rule constants) pattern_of arities count (drop from (numbers n row)))
-      (λ q e. let s = rw e at r in absurd (h s))
-      (λ w e. let s = rw e at r in record { walk = w; read = e; columns = s.0; words = s.1 })
+-- question 11, by the words that are left
+pub left_over : (words : List ℕ) (left : List Number) → map number_of words ≡ left → (length words ≡ 0 → ⊥) → is_empty left ≡ false
+left_over words left e h = some-full left (λ z. h (omega (arith, z, length-map words number_of, ap length e)))
 
--- question 11, by the next column
-pub left_over : {n next : ℕ} (left : List Number) → next + length left ≡ n → next < n → is_empty left ≡ false
-left_over left e h = some-full left (λ z. omega arith)
-
-pub none_left : {n next : ℕ} (left : List Number) → next + length left ≡ n → n ≤ next → is_empty left ≡ true
-none_left left e h = none-empty left (omega arith)
+pub none_left : (words : List ℕ) (left : List Number) → map number_of words ≡ left → length words ≡ 0 → is_empty left ≡ true
+none_left words left e h = none-empty left (omega (arith, h, length-map words number_of, ap length e))
 
 -- ── the front of the slots ──
 

@@ -5,3 +5,4 @@ pub mod EnteringLaws
 pub mod ClauseSlotLaws
 pub mod HeldClauseLaws
 pub mod ReadClauseLaws
+pub mod Placed

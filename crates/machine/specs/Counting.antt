@@ -43,6 +43,7 @@ use Rattle.machine.specs.declared.Machine.{Machine}
 use Rattle.machine.specs.StandsLaws.{trail-consistent, trail-decided, unit-unset, goal-unset, goal-none, goal-some, back_none}
 use Rattle.machine.specs.StepNeeds.{units-fit, unit-literal, flip-fits}
 use Rattle.machine.specs.MachineSteps.{Stepped, stepped, one_set, one_decided, one_conflict, one_logged, flip_at, conflict_step, unit_step, decide_step, goal_step, instance_step, run_after}
+use Rattle.walk.specs.declared.Instance.{Instance}
 use Rattle.machine.specs.declared.Run.{Run}
 use Rattle.machine.specs.declared.Ended.{Ended}
 
@@ -170,13 +171,13 @@ pub record LoggedKept (m : Machine) (run : Run) (k : Counters) (next : Next) (l 
   pub more : (after : Run) → next ≡ Continue after → after.clauses ≡ run.clauses + 1
   pub full : (last : Ended) → next ≡ Break last → last.run.clauses ≡ run.clauses
 
-pub instance-kept : (rules : List ℕ) (sizes : Sizes) (r f : ℕ) (m : Machine) (run : Run) {next : Next} {l : Log}
-    → stepped next l ≡ instance_step m.trail.values rules sizes r f (log_in m run) run
+pub instance-kept : (rules : List ℕ) (sizes : Sizes) (i : Instance) (m : Machine) (run : Run) {next : Next} {l : Log}
+    → stepped next l ≡ instance_step m.trail.values rules sizes i (log_in m run) run
     → ClausesFit m.store.starts m.store.literals m.store.heads sizes.clauses run.clauses
     → {k : Counters} → CountsKept m run k → LoggedKept m run k next l
 unfolding instance_step one_logged
-instance-kept rules sizes r f m run {next} {l} e fit {k} kept =
-    by-option (log_under m.trail.values rules filling r sizes.clauses (log_in m run))
+instance-kept rules sizes i m run {next} {l} e fit {k} kept =
+    by-option (log_under m.trail.values rules filling i.rule sizes.clauses (log_in m run))
     (λ q.
     let same : l ≡ log_in m run = ap (λ (x : Stepped Log). x.arrays) e ∙ rw (q, instance_step) in
     let its : next ≡ Break (ended_with Full run) = ap (λ (x : Stepped Log). x.next) e ∙ rw (q, instance_step) in
@@ -189,13 +190,13 @@ instance-kept rules sizes r f m run {next} {l} e fit {k} kept =
     let same : l ≡ g = ap (λ (x : Stepped Log). x.arrays) e ∙ rw (q, instance_step) in
     let its : next ≡ Continue (one_logged g.atoms run) = ap (λ (x : Stepped Log). x.next) e ∙ rw (q, instance_step) in
     record {
-      kept = rw same (kept ∙ counters-same m.trail.values _ _ run.clauses (omega (arith, fit.limit)) (λ c b. sym (log-keeps rules filling r sizes.clauses (log_in m run) g fit m.trail.values q c b)));
+      kept = rw same (kept ∙ counters-same m.trail.values _ _ run.clauses (omega (arith, fit.limit)) (λ c b. sym (log-keeps rules filling i.rule sizes.clauses (log_in m run) g fit m.trail.values q c b)));
       more = λ after z. let y : after ≡ one_logged g.atoms run = cc in ap (λ (x : Run). x.clauses) y;
       full = λ last z. apart (cc);
     })
   where
     filling : List ℕ
-    filling = filling_of sizes.constants (rule_variables rules r) f
+    filling = filling_of sizes.constants (rule_variables rules i.rule) i.filling
 
 -- ── steps on the trail change no clause ──
 

@@ -21,8 +21,7 @@ use Rattle.units.specs.TrailWords.{TrailStands}
 use Rattle.units.specs.TrailLaws.{Room}
 use Rattle.units.specs.Units.{act_from}
 use Rattle.units.specs.declared.UnitAct.{UnitAct}
-use Rattle.walk.specs.Walk.{walk_from}
-use Rattle.walk.specs.declared.Found.{Found}
+use Rattle.walk.specs.Walk.{Found, walk_from}
 use Rattle.clause_log.specs.Logging.{Log}
 use Rattle.clause_log.specs.LogHolds.{LogHolds}
 use Rattle.encoding.specs.declared.ClauseStore.{ClauseStore}

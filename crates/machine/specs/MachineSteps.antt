@@ -1,5 +1,5 @@
 -- The steps of the machine, in the code's order of tests, and what a run of them comes to. Assumes nothing.
-use Rattle.std.specs.Prelude.{ℕ, zero, suc, ◌+◌, ◌*◌, true, false, List, eqb, leb, get_or}
+use Rattle.std.specs.Prelude.{Some, None, ℕ, zero, suc, ◌+◌, ◌*◌, true, false, List, eqb, leb, get_or}
 use Rattle.std.proofs.Math.Option.{none, some}
 use Rattle.std.proofs.Common.{Continue, Break}
 use Rattle.definitions.specs.declared.Verdict.TheVariants.{Unsat, Unknown, Spent, Full}
@@ -15,7 +15,7 @@ use Rattle.rules.specs.Rules.{rule_variables}
 use Rattle.rules.specs.Fillings.{filling_of}
 use Rattle.machine.specs.declared.Run.{Run}
 use Rattle.units.specs.declared.UnitAct.TheVariants.{Conflict, Force, Nothing}
-use Rattle.walk.specs.declared.Found.TheVariants.{Instance, Nowhere}
+use Rattle.walk.specs.declared.Instance.{Instance}
 
 -- what a step answers, and the arrays that it changes as it leaves them
 pub record Stepped (A : Type 0) : Type 0 where
@@ -70,9 +70,9 @@ goal_step goals budget t run =
 -- ── on the log ──
 
 -- B: an instance is logged
-unfoldable pub instance_step : Values → List ℕ → Sizes → ℕ → ℕ → Log → Run → Stepped Log
-instance_step values rules sizes r f l run =
-    elim (log_under values rules (filling_of sizes.constants (rule_variables rules r) f) r sizes.clauses l) [
+unfoldable pub instance_step : Values → List ℕ → Sizes → Instance → Log → Run → Stepped Log
+instance_step values rules sizes i l run =
+    elim (log_under values rules (filling_of sizes.constants (rule_variables rules i.rule) i.filling) i.rule sizes.clauses l) [
       | none ↦ stepped (Break (ended_with Full run)) l
       | some k ↦ stepped (Continue (one_logged k.atoms run)) k
     ]
@@ -98,8 +98,8 @@ machine_step rules sizes budget m run =
       | Conflict ↦ on_trail m (conflict_step m.trail run)
       | Force w ↦ on_trail m (unit_step w m.trail run)
       | Nothing ↦ elim (walk_of rules sizes m) [
-        | Instance r f ↦ on_log m (instance_step m.trail.values rules sizes r f (log_in m run) run)
-        | Nowhere ↦ on_trail m (goal_step sizes.atoms budget m.trail run)
+        | Some i ↦ on_log m (instance_step m.trail.values rules sizes i (log_in m run) run)
+        | None ↦ on_trail m (goal_step sizes.atoms budget m.trail run)
       ]
     ]
 

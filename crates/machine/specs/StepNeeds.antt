@@ -24,7 +24,7 @@ use Rattle.units.specs.ClausesStand.{act_word}
 use Rattle.units.specs.TrailWords.{latest_decision, first_unset}
 use Rattle.units.specs.LiteralWords.{word_small}
 use Rattle.units.specs.TrailLaws.{words_small}
-use Rattle.walk.specs.Walk.{fires_at, first_from, walk_from}
+use Rattle.walk.specs.Walk.{fires_at, first_from, walk_from, found_at}
 use Rattle.rules.specs.Firing.{fires_under}
 use Rattle.clause_log.specs.Logging.{LogFits}
 use Rattle.machine.specs.Machine.{log_in, act_of, walk_of, Stands, Running}
@@ -32,8 +32,9 @@ use Rattle.machine.specs.declared.Machine.{Machine}
 use Rattle.machine.specs.StandsLaws.{room_for, act-as, unit-unset, back_none, back_some, goal-unset, goal-none, goal-some}
 use Rattle.machine.specs.declared.Run.{Run}
 use Rattle.units.specs.declared.UnitAct.TheVariants.{Force, Nothing}
-use Rattle.walk.specs.declared.Found.TheVariants.{Instance}
-use Rattle.walk.specs.WalkLaws.{found_below, first_from-passes}
+use Rattle.std.specs.Prelude.{Some, None}
+use Rattle.walk.specs.declared.Instance.{Instance}
+use Rattle.walk.specs.WalkLaws.{found_below, first_from-passes, found-same}
 use Rattle.rules.specs.Rules.{code_under, true_under, head_slots, rule_variables, RulesFit, IndexFits}
 use Rattle.rules.specs.Fillings.{filling_of, filling_count}
 use Rattle.rules.specs.RuleStands.{rules-fit}
@@ -48,13 +49,13 @@ force-of table (some (force l)) w e = (l, refl, cc)
 
 module _ (values : Values) (index rules : List ℕ) (n : ℕ) where
   -- what the walk finds fires
-  walk-fires : (at k r f : ℕ) → walk_from values index rules n at k ≡ Instance r f → fires_at values index rules n r f ≡ true
+  walk-fires : (at k : ℕ) (i : Instance) → walk_from values index rules n at k ≡ Some i → fires_at values index rules n i.rule i.filling ≡ true
   unfolding walk_from
-  walk-fires at zero r f e = apart (cc)
-  walk-fires at (suc k) r f e =
+  walk-fires at zero i e = apart (let z : None ≡ Some i = e in cc)
+  walk-fires at (suc k) i e =
       by-option (first_from (fires_at values index rules n at) 0 (filling_count rules n at))
-      (λ q. walk-fires (suc at) k r f (cc))
-      (λ g q. let its : at ≡ r = cc in let it : g ≡ f = cc in rw (← its, ← it) (first_from-passes (fires_at values index rules n at) 0 (filling_count rules n at) g q))
+      (λ q. walk-fires (suc at) k i (cc))
+      (λ g q. let same : found_at at g ≡ Some i = cc in let (its, it) = found-same at g i.rule i.filling same in rw (← its, ← it) (first_from-passes (fires_at values index rules n at) 0 (filling_count rules n at) g q))
 
   -- so its heads are true, and their atoms are in the index
   fires-entered : (r f : ℕ) → fires_at values index rules n r f ≡ true → (b : ℕ) → b ∈ head_slots rules r
@@ -123,11 +124,11 @@ module _ (budget : ℕ) (rules : List ℕ) (sizes : Sizes) (m : Machine) (run : 
     index-small,
   )
 
-  pub log-fits : (r f : ℕ) → act_of sizes m run ≡ Nothing → walk_of rules sizes m ≡ Instance r f
-      → RulesFit rules sizes.constants (r + 1) × (f < filling_count rules sizes.constants r) × LogFits rules (filling_of sizes.constants (rule_variables rules r) f) r sizes.clauses (log_in m run)
-  log-fits r f e g = (
-    fewer-fit rules sizes.constants sizes.rules (r + 1) rules-and-index.0 (let b = (found_below m.trail.values m.table.index rules sizes.constants 0 sizes.rules r f g).0 in omega arith),
-    (found_below m.trail.values m.table.index rules sizes.constants 0 sizes.rules r f g).1,
+  pub log-fits : (i : Instance) → act_of sizes m run ≡ Nothing → walk_of rules sizes m ≡ Some i
+      → RulesFit rules sizes.constants (i.rule + 1) × (i.filling < filling_count rules sizes.constants i.rule) × LogFits rules (filling_of sizes.constants (rule_variables rules i.rule) i.filling) i.rule sizes.clauses (log_in m run)
+  log-fits i e g = (
+    fewer-fit rules sizes.constants sizes.rules (i.rule + 1) rules-and-index.0 (let b = (found_below m.trail.values m.table.index rules sizes.constants 0 sizes.rules i.rule i.filling g).0 in omega arith),
+    (found_below m.trail.values m.table.index rules sizes.constants 0 sizes.rules i.rule i.filling g).1,
     record {
       goals = omega (arith, its-clauses p running.counts, running.rules_stand.limits.clauses);
       behind = omega (arith, its-clauses p running.counts, h.log.clauses);
@@ -135,7 +136,7 @@ module _ (budget : ℕ) (rules : List ℕ) (sizes : Sizes) (m : Machine) (run : 
       atoms = omega (arith, h.log.atoms, h.log.table_fits);
       room = λ less. omega (arith, h.log.used, h.log.clauses, its-clauses p running.counts, few-literals p running.rules_stand.limits);
       index = index-small;
-      entered = fires-entered m.trail.values m.table.index rules sizes.constants r f (walk-fires m.trail.values m.table.index rules sizes.constants 0 sizes.rules r f g);
+      entered = fires-entered m.trail.values m.table.index rules sizes.constants i.rule i.filling (walk-fires m.trail.values m.table.index rules sizes.constants 0 sizes.rules i g);
     },
   )
 

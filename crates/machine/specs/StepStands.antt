@@ -28,7 +28,7 @@ use Rattle.units.specs.TrailWords.{mark_of, latest_decision, cleared, first_unse
 use Rattle.units.specs.LiteralWords.{word-plain}
 use Rattle.units.specs.Stacks.{length-cleared}
 use Rattle.units.specs.TrailLaws.{room-kept, set-stands, grown-stands}
-use Rattle.walk.specs.Walk.{walk_from}
+use Rattle.walk.specs.Walk.{walk_from, Found}
 use Rattle.walk.specs.WalkStands.{WalkAs}
 use Rattle.clause_log.specs.Logging.{Log}
 use Rattle.clause_log.specs.LogHolds.{LogHolds}
@@ -42,8 +42,8 @@ use Rattle.units.specs.BacktrackLaws.{zero-backtrack-none}
 use Rattle.rules.specs.RuleStands.{rule-variables}
 use Rattle.machine.specs.declared.Run.{Run}
 use Rattle.std.proofs.Common.{Continue, Break}
-use Rattle.walk.specs.declared.Found.{Found}
-use Rattle.walk.specs.declared.Found.TheVariants.{Instance, Nowhere}
+use Rattle.std.specs.Prelude.{Some, None}
+use Rattle.walk.specs.declared.Instance.{Instance}
 
 -- ── what a step of the machine comes to ──
 
@@ -91,23 +91,23 @@ module _ (p : Problem) (budget : ℕ) (rules : List ℕ) (rules_stand : RulesSta
   unfolding machine_step sizes_of act_word
   on-unit l e = cc (act-as p budget s m run h)
 
-  on-instance : (r f : ℕ) → next_act (task_of p) s ≡ none → walk ≡ Instance r f
-      → result ≡ on_log m (instance_step m.trail.values rules (sizes_of p) r f (log_in m run) run)
+  on-instance : (i : Instance) → next_act (task_of p) s ≡ none → walk ≡ Some i
+      → result ≡ on_log m (instance_step m.trail.values rules (sizes_of p) i (log_in m run) run)
   unfolding machine_step sizes_of act_word
-  on-instance r f e w = cc (act-as p budget s m run h)
+  on-instance i e w = cc (act-as p budget s m run h)
 
-  on-goal : next_act (task_of p) s ≡ none → walk ≡ Nowhere
+  on-goal : next_act (task_of p) s ≡ none → walk ≡ None
       → result ≡ on_trail m (goal_step goals budget m.trail run)
   unfolding machine_step sizes_of act_word
   on-goal e w = cc (act-as p budget s m run h)
 
   -- the walk finds nothing where the search does
-  walk-nowhere : next_instance (task_of p) s ≡ none → walk ≡ Nowhere
+  walk-nowhere : next_instance (task_of p) s ≡ none → walk ≡ None
   walk-nowhere e = cases walk (walk-as p budget s m run h rules rules_stand)
     where
-      cases : (found : Found) → WalkAs p s found → found ≡ Nowhere
-      cases Nowhere w = refl
-      cases (Instance r f) (x, its, below, first) = none≢some (sym e ∙ first)
+      cases : (found : Found) → WalkAs p s found → found ≡ None
+      cases None w = refl
+      cases (Some w) (x, its, below, first) = none≢some (sym e ∙ first)
 
   goal-rests : next_goal (task_of p) s ≡ none → goal_step goals budget m.trail run ≡ stepped (Break (ended_with Unknown run)) m.trail
   unfolding goal_step
@@ -248,26 +248,26 @@ module _ (p : Problem) (budget : ℕ) (rules : List ℕ) (rules_stand : RulesSta
     logs-next d room = cases walk refl (walk-as p budget s m run h rules rules_stand)
       where
         cases : (w : Found) → walk ≡ w → WalkAs p s w → NextStands p budget (more (log_instance s logged)) result.next result.arrays
-        cases Nowhere q e = none≢some (sym e ∙ found)
-        cases (Instance r f) q (x, its, below, first) =
+        cases None q e = none≢some (sym e ∙ found)
+        cases (Some w) q (x, its, below, first) =
             let same = some-injective (sym found ∙ first) in
-            let (l, put, holds) = logged-stands p limits rules words s m.trail.values (log_in m run) h.log (true-words p budget s m run h) (true-known p budget s m run h) r x its f below first (rw same at room) in
-            let comes : instance_step m.trail.values rules (sizes_of p) r f (log_in m run) run ≡ stepped (Continue (one_logged l.atoms run)) l =
-            cc (put, rule-variables p limits rules words r x its) in
-            goes_on p budget (on-instance r f no_act q ∙ ap (on_log m) comes) (logs-stands i l d (subst (λ j. LogHolds p (log_instance s (logged_of s.trail j)) l) (sym same) holds))
+            let (l, put, holds) = logged-stands p limits rules words s m.trail.values (log_in m run) h.log (true-words p budget s m run h) (true-known p budget s m run h) w.rule x its w.filling below first (rw same at room) in
+            let comes : instance_step m.trail.values rules (sizes_of p) w (log_in m run) run ≡ stepped (Continue (one_logged l.atoms run)) l =
+            cc (put, rule-variables p limits rules words w.rule x its) in
+            goes_on p budget (on-instance w no_act q ∙ ap (on_log m) comes) (logs-stands i l d (subst (λ j. LogHolds p (log_instance s (logged_of s.trail j)) l) (sym same) holds))
 
     overflows-as : has_room s logged ≡ false → result ≡ stepped (Break (ended_with Full run)) m
     unfolding instance_step on_log sizes_of
     overflows-as full = cases walk refl (walk-as p budget s m run h rules rules_stand)
       where
         cases : (w : Found) → walk ≡ w → WalkAs p s w → result ≡ stepped (Break (ended_with Full run)) m
-        cases Nowhere q e = none≢some (sym e ∙ found)
-        cases (Instance r f) q (x, its, below, first) =
+        cases None q e = none≢some (sym e ∙ found)
+        cases (Some w) q (x, its, below, first) =
             let same = some-injective (sym found ∙ first) in
-            let put = logged-full p limits rules words s m.trail.values (log_in m run) h.log (true-words p budget s m run h) (true-known p budget s m run h) r x its f below first (rw same at full) in
-            let comes : instance_step m.trail.values rules (sizes_of p) r f (log_in m run) run ≡ stepped (Break (ended_with Full run)) (log_in m run) =
-            cc (put, rule-variables p limits rules words r x its) in
-            on-instance r f no_act q ∙ ap (on_log m) comes
+            let put = logged-full p limits rules words s m.trail.values (log_in m run) h.log (true-words p budget s m run h) (true-known p budget s m run h) w.rule x its w.filling below first (rw same at full) in
+            let comes : instance_step m.trail.values rules (sizes_of p) w (log_in m run) run ≡ stepped (Break (ended_with Full run)) (log_in m run) =
+            cc (put, rule-variables p limits rules words w.rule x its) in
+            on-instance w no_act q ∙ ap (on_log m) comes
 
   -- ── every kind of step ──
 

@@ -2,6 +2,10 @@
 // definitions' search is shown in specs.
 #![tactic(auto)]
 
+ghost use Rattle.std.specs.Prelude.{◌≡◌};
+ghost use Rattle.std.proofs.Common.{Break};
+ghost use Rattle.machine.specs.Machine.{ended_with};
+
 use agenda::{Agenda, USERS};
 use definitions::Verdict;
 use encoding::values::Values;
@@ -54,6 +58,15 @@ pub struct Ended {
 
 // What a step leads to.
 pub type Next = ControlFlow<Ended, Run>;
+
+impl Run {
+    // The search ends.
+    pub fn ends(self, verdict: Verdict) -> Next
+        ensures { result ≡ Break (ended_with verdict self) }
+    {
+        ControlFlow::Break(Ended { verdict, run: self })
+    }
+}
 
 // What is left of a search: what it came to, the number of goal clauses, and what its listing is made from.
 #[derive(Clone, Copy, Drop)]

@@ -2,7 +2,8 @@
 -- whatever they held before. Assumes nothing.
 use Rattle.std.specs.Prelude.{ℕ, ◌<◌, ◌≡◌, List, map}
 use Rattle.std.proofs.Math.Path.{refl, ap}
-use Rattle.std.proofs.Common.{sym, ◌∙◌, arith}
+use Rattle.std.specs.Prelude.{IsErrAnd}
+use Rattle.std.proofs.Common.{sym, ◌∙◌, arith, Result, Ok, Err}
 use Rattle.std.proofs.Math.ListN.{length, get_or}
 use Rattle.std.proofs.Math.Seq.{length-sets}
 use Rattle.definitions.specs.Lists.{joined}
@@ -17,27 +18,26 @@ use Rattle.encoding.specs.Values.{Values, no_values}
 use Rattle.encoding.specs.Encoding.{atom_code, clause_words, starts_from, Arrays, empty_index, sizes_of, hold}
 use Rattle.encoding.specs.declared.Sizes.{Sizes}
 use Rattle.sheet.specs.LineHolds.{SheetRead}
-use Rattle.sheet.specs.declared.Read.{Read}
 use Rattle.clause_log.specs.StoreLaws.{sets-start-at}
 use Rattle.machine.specs.Machine.{machine, EndStands, Lengths, Loaded}
 use Rattle.machine.specs.declared.Machine.{Machine}
 use Rattle.machine.specs.Loading.{held_machine, accepted-loaded}
-use Rattle.machine.specs.Finished.{AtEnd, at-end}
+use Rattle.machine.specs.Finished.{AtEnd, left_of, at-end}
 use Rattle.machine.specs.declared.Ended.{Ended}
 use Rattle.pipe.specs.Reaching.{ReachedAs}
-use Rattle.pipe.specs.declared.Reached.{Reached}
+use Rattle.machine.specs.declared.Searched.{Searched}
 
-module _ (sheet : List ℕ) (r : Read) (before after : Arrays) (left : SheetRead (read sheet) r before after) where
+module _ (sheet : List ℕ) (r : Result Sizes Refusal) (before after : Arrays) (left : SheetRead (read sheet) r before after) where
   -- a refusal is handed on
-  pub refused-reached : (budget : ℕ) (arities starts literals numbers table : List ℕ) (values : Values) (f : Refusal) → r ≡ Read.Refused f
-      → ReachedAs (read sheet) budget (Reached.Refused f) arities starts literals numbers table values
-  refused-reached budget arities starts literals numbers table values f e = from (read sheet) left
+  pub refused-reached : (budget : ℕ) (f : Refusal) → r ≡ Err f → (reached : Result Searched Refusal) → IsErrAnd reached (λ g. g ≡ f) → ReachedAs (read sheet) budget reached
+  refused-reached budget f e (Ok x) same = absurd same
+  refused-reached budget f e (Err g) same = rw same (from (read sheet) left)
     where
-      from : (reading : Reading) → SheetRead reading r before after → ReachedAs reading budget (Reached.Refused f) arities starts literals numbers table values
+      from : (reading : Reading) → SheetRead reading r before after → ReachedAs reading budget (Err f)
       from (refused q n) h = cc
-      from (accepted p) h = apart (let z : Read.Accepted (sizes_of p) ≡ Read.Refused f = sym h.0 ∙ e in cc)
+      from (accepted p) h = apart (let z : Ok (sizes_of p) ≡ Err f = sym h.0 ∙ e in cc)
 
-  module _ (sizes : Sizes) (e : r ≡ Read.Accepted sizes) where
+  module _ (sizes : Sizes) (e : r ≡ Ok sizes) where
     -- the arrays hold the problem of an accepted sheet
     record Held (p : Problem) : Type 0 where
       reads : read sheet ≡ accepted p
@@ -48,8 +48,8 @@ module _ (sheet : List ℕ) (r : Read) (before after : Arrays) (left : SheetRead
     by-problem {C} f = from (read sheet) refl left
       where
         from : (reading : Reading) → read sheet ≡ reading → SheetRead reading r before after → C
-        from (refused q n) d h = apart (let z : Read.Refused (record { number = q; line = n }) ≡ Read.Accepted sizes = sym h ∙ e in cc)
-        from (accepted p) d h = let same : Read.Accepted sizes ≡ Read.Accepted (sizes_of p) = sym e ∙ h.0 in f p (record { reads = d; counts = cc; holds = h.1 })
+        from (refused q n) d h = apart (let z : Err (record { number = q; line = n }) ≡ Ok sizes = sym h ∙ e in cc)
+        from (accepted p) d h = let same : Ok sizes ≡ Ok (sizes_of p) = sym e ∙ h.0 in f p (record { reads = d; counts = cc; holds = h.1 })
 
     module _ (empty : before.index ≡ empty_index) (arities : length before.arities ≡ 16) (heads numbers : List ℕ) (values : Values) (trail marks : List ℕ)
         (lengths : Lengths before.rules (machine before.starts before.literals heads numbers before.table before.index values trail marks)) (unset : values ≡ no_values) where
@@ -84,41 +84,34 @@ module _ (sheet : List ℕ) (r : Read) (before after : Arrays) (left : SheetRead
       pub accepted-reached : (budget : ℕ) (ended : Ended) (m : Machine)
           → ((p : Problem) → Loaded p sizes after.rules loaded
           → EndStands p budget (search p budget) ended m)
-          → ReachedAs (read sheet) budget (Reached.Ended sizes.clauses ended) after.arities m.store.starts m.store.literals m.store.numbers m.table.codes m.trail.values
+          → ReachedAs (read sheet) budget (Ok (left_of ended sizes.clauses after.arities m))
       unfolding sizes_of hold
       accepted-reached budget ended m ends =
           by-problem (λ p held.
           let its = held-loaded p held in
           let limits = accepted-limits sheet p held.reads in
-          let given : sizes.clauses ≡ length p.clauses = ap (λ (x : Sizes). x.clauses) held.counts in
           let its-arities : (i : ℕ) → i < length p.arities → get_or after.arities i 0 ≡ get_or p.arities i 0 =
           λ i below. ap (λ (a : Arrays). get_or a.arities i 0) held.holds ∙ sets-start-at before.arities p.arities (omega (arith, limits.symbols)) i below in
           rw held.reads
-          (ended, ap (λ (n : ℕ). Reached.Ended n ended) given, at-end p budget ended m (length p.clauses) after.arities its.limits its-arities refl (ends p its)))
+          (left_of ended sizes.clauses after.arities m, refl,
+          at-end p budget ended m sizes.clauses after.arities its.limits its-arities (ap (λ (x : Sizes). x.clauses) held.counts) (ends p its)))
 
 -- ── for the caller ──
 
-module _ (reading : Reading) (budget : ℕ) (r : Reached) (arities starts literals numbers table : List ℕ) (values : Values)
-    (reached : ReachedAs reading budget r arities starts literals numbers table values) where
-  pub reading-refused : (f : Refusal) → r ≡ Reached.Refused f → reading ≡ refused f.number f.line
+module _ (reading : Reading) (budget : ℕ) (r : Result Searched Refusal) (reached : ReachedAs reading budget r) where
+  pub reading-refused : (f : Refusal) → r ≡ Err f → reading ≡ refused f.number f.line
   reading-refused f e = from reading reached
     where
-      same : {g h : Refusal} → Reached.Refused g ≡ Reached.Refused h → refused g.number g.line ≡ refused h.number h.line
-      same d = cc
+      from : (x : Reading) → ReachedAs x budget r → x ≡ refused f.number f.line
+      from (refused q n) h = let z : Err (record { number = q; line = n }) ≡ Err f = sym h ∙ e in let same : ◌≡◌ {A = Refusal} (record { number = q; line = n }) f = cc in ap (λ (g : Refusal). refused g.number g.line) same
+      from (accepted p) (x, h, end) = apart (let z : Ok x ≡ Err f = sym h ∙ e in cc)
 
-      from : (x : Reading) → ReachedAs x budget r arities starts literals numbers table values → x ≡ refused f.number f.line
-      from (refused q n) h = same (sym h ∙ e)
-      from (accepted p) h = apart (let z : Reached.Ended (length p.clauses) h.0 ≡ Reached.Refused f = sym h.1 ∙ e in cc)
-
-  pub reading-searched : (given : ℕ) (ended : Ended) → r ≡ Reached.Ended given ended
-      → (p : Problem) × (reading ≡ accepted p) × AtEnd p budget ended given arities starts literals numbers table values
-  reading-searched given ended e = from reading reached
+  pub reading-searched : (x : Searched) → r ≡ Ok x → (p : Problem) × (reading ≡ accepted p) × AtEnd p budget x
+  reading-searched x e = from reading reached
     where
-      from : (x : Reading) → ReachedAs x budget r arities starts literals numbers table values
-          → (p : Problem) × (x ≡ accepted p) × AtEnd p budget ended given arities starts literals numbers table values
-      from (refused q n) h = apart (let z : Reached.Refused (record { number = q; line = n }) ≡ Reached.Ended given ended = sym h ∙ e in cc)
-      from (accepted p) h =
-          let z : Reached.Ended (length p.clauses) h.0 ≡ Reached.Ended given ended = sym h.1 ∙ e in
-          let count : length p.clauses ≡ given = cc in
-          let same : h.0 ≡ ended = cc in
-          (p, refl, rw (← count, ← same) h.2)
+      from : (y : Reading) → ReachedAs y budget r → (p : Problem) × (y ≡ accepted p) × AtEnd p budget x
+      from (refused q n) h = apart (let z : Err (record { number = q; line = n }) ≡ Ok x = sym h ∙ e in cc)
+      from (accepted p) (y, h, end) =
+          let z : Ok y ≡ Ok x = sym h ∙ e in
+          let same : y ≡ x = cc in
+          (p, refl, rw (← same) end)

@@ -1,61 +1,56 @@
-// A sheet read and searched into arrays that are lent. What a caller makes of the final arrays is its own.
+// A sheet read and searched. What a caller makes of what is left is its own.
 #![tactic(auto)]
 
-ghost use Rattle.std.specs.Prelude.{◌≡◌};
-ghost use Rattle.encoding.specs.Values.{no_values};
 ghost use Rattle.definitions.specs.Questions.{read};
 ghost use Rattle.pipe.specs.Reaching.{ReachedAs};
 
 use definitions::Refusal;
-use encoding::values::Values;
-use encoding::{ATOMS, CODES, LITERALS, LOGGED, RULE_WORDS, STARTS, SYMBOLS};
-use sheet::Read;
+use encoding::values::STATE_WORDS;
+use encoding::{ATOMS, AtomTable, CODES, ClauseStore, LITERALS, LOGGED, RULE_WORDS, STARTS, SYMBOLS};
+use machine::{Machine, Searched};
+use units::trail::Trail;
 
-// The first question that is answered no; or the number of goal clauses, and what the search came to.
-#[derive(Clone, Copy, Drop)]
-pub enum Reached {
-    Refused(Refusal),
-    Ended(usize, machine::Ended),
-}
-
-// Reads the sheet and searches it. The values must be unset; the other arrays may hold anything.
-// After a refusal nothing is said of the arrays.
-pub fn search_sheet(
-    sheet: &[u8],
-    budget: u32,
-    arities: &mut [u8; SYMBOLS],
-    starts: &mut [u16; STARTS],
-    literals: &mut [u16; LITERALS],
-    numbers: &mut [u8; LOGGED],
-    table: &mut [u32; ATOMS],
-    values: &mut Values,
-) -> Reached
-    requires { values.old ≡ no_values }
-    ensures { ReachedAs (read sheet.now) budget result
-        arities.new starts.new literals.new numbers.new table.new values.new }
+// Reads the sheet and searches it: what is left of the search, or the first question that is answered no.
+// It is called from several places, and stands once in a program.
+#[inline(never)]
+pub fn search_sheet(sheet: &[u8], budget: u32) -> Result<Searched, Refusal>
+    ensures { ReachedAs (read sheet.now) budget result }
 {
-    // Lent as slices, the arrays show their lengths, which the proof needs.
-    let _arities: &[u8] = arities;
-    let _starts: &[u16] = starts;
-    let _literals: &[u16] = literals;
-    let _numbers: &[u8] = numbers;
-    let _table: &[u32] = table;
-    let mut rules = [0u16; RULE_WORDS];
-    let mut index = [0u16; CODES];
-    let mut heads = [0u8; LOGGED];
-    let mut trail = [0u16; ATOMS];
-    let mut marks = [0u8; ATOMS];
-    match sheet::read_sheet(
-        sheet, arities, &mut rules, starts, literals, table, &mut index,
-    ) {
-        Read::Refused(refusal) => Reached::Refused(refusal),
-        Read::Accepted(sizes) => {
-            let ended = search::search(
-                sizes, budget, &rules, starts, literals, &mut heads, numbers, table, &mut index,
-                values, &mut trail, &mut marks,
-            );
-            let given = sizes.clauses;
-            Reached::Ended(given, ended)
-        }
-    }
+    let mut arities = [0; SYMBOLS];
+    let mut rules = [0; RULE_WORDS];
+    let mut machine = Machine {
+        store: ClauseStore {
+            starts: [0; STARTS],
+            literals: [0; LITERALS],
+            heads: [0; LOGGED],
+            numbers: [0; LOGGED],
+        },
+        table: AtomTable {
+            codes: [0; ATOMS],
+            index: [0; CODES],
+        },
+        trail: Trail {
+            values: [0; STATE_WORDS],
+            words: [0; ATOMS],
+            marks: [0; ATOMS],
+        },
+    };
+    let sizes = sheet::read_sheet(
+        sheet,
+        &mut arities,
+        &mut rules,
+        &mut machine.store.starts,
+        &mut machine.store.literals,
+        &mut machine.table.codes,
+        &mut machine.table.index,
+    )?;
+    let ended = search::search(sizes, budget, &rules, &mut machine);
+    Ok(Searched {
+        ended,
+        given: sizes.clauses,
+        arities,
+        store: machine.store,
+        codes: machine.table.codes,
+        values: machine.trail.values,
+    })
 }

@@ -1,34 +1,37 @@
 -- The loops over a line's bytes and over its columns: one turn and the end of each, in the code's terms.
-use Prim.Native.Nat.{ℕ, suc, ◌+◌, ◌-◌, ◌*◌, ◌<◌, ◌≤◌}
+use Prim.Native.Nat.{ℕ, zero, suc, ◌+◌, ◌-◌, ◌*◌, ◌<◌, ◌≤◌}
 use mathlib.Core.Path.{◌≡◌, refl, sym, ◌∙◌}
 use mathlib.Core.Bool.{Bool}
 use mathlib.Core.List.{List, [], ◌∷◌, ◌++◌, append-nil, append_assoc}
 use native.Mathlib.Numerals.{add-one}
 use native.Mathlib.Omega.{arith}
-use lib.ListN.{length, get_or, set, take, drop, length-set, drop_of_length-le}
+use lib.ListN.{length, get_or, set, take, drop, length-set}
 use lib.Seq.{drop-cons}
 use borrow.Author.Tests.{ne_eqb}
+use Rattle.std.specs.Prelude.{Result, Ok, Err, IsErrAnd}
+use Rattle.definitions.specs.declared.Question.{Question}
+use Rattle.definitions.specs.declared.Question.TheVariants.{Columns}
 use Rattle.definitions.specs.Sheet.{Number, number, nothing, fault, decimal}
 use Rattle.definitions.specs.Questions.{Asked, no, yes, ◌>>=◌, in_front, columns}
 use Rattle.encoding.specs.Signs.{word_of, numbers}
-use Rattle.rows.specs.Rows.{line_length}
+use Rattle.rows.specs.Rows.{line_length, row_asked}
 use Rattle.encoding.specs.Signs.{number_word_lem}
 use Rattle.rows.specs.RowLaws.{numbers-set}
 
 -- ── the bytes of a line ──
 
-module _ (s : List ℕ) (at : ℕ) where
-  pub line-here : at < length s → get_or s at 0 ≡ 10 → line_length (drop at s) ≡ 0
-  unfolding line_length
-  line-here h e = cc (drop-cons s at 0 h)
+pub line_length-first : (s : List ℕ) (k : ℕ) → k < length s → get_or s k 0 ≡ 10 → ((j : ℕ) → j < k → get_or s j 0 ≡ 10 → ⊥) → line_length s ≡ k
+unfolding line_length
+line_length-first [] k h e before = absurd (omega arith)
+line_length-first (b ∷ s) zero h e before = cc
+line_length-first (b ∷ s) (suc k) h e before =
+    cc (ne_eqb b 10 (before 0 (omega arith)), line_length-first s k (omega arith) e (λ j l. before (suc j) (omega arith)))
 
-  pub line_on : at < length s → (get_or s at 0 ≡ 10 → ⊥) → line_length (drop at s) ≡ suc (line_length (drop (at + 1) s))
-  unfolding line_length
-  line_on h n = cc (add-one at, drop-cons s at 0 h, ne_eqb (get_or s at 0) 10 n)
-
-  pub line-over : length s ≤ at → line_length (drop at s) ≡ 0
-  unfolding line_length
-  line-over h = rw (drop_of_length-le s h)
+pub line_length-whole : (s : List ℕ) → ((j : ℕ) → j < length s → get_or s j 0 ≡ 10 → ⊥) → line_length s ≡ length s
+unfolding line_length
+line_length-whole [] none = refl
+line_length-whole (b ∷ s) none =
+    cc (ne_eqb b 10 (none 0 (omega arith)), line_length-whole s (λ j l. none (suc j) (omega arith)))
 
 -- ── the columns of a line ──
 
@@ -129,6 +132,8 @@ module _ (s : List ℕ) (from count i : ℕ) (fits : from + 4 * count ≤ length
         turn = rw (row_cons, e)
 
     -- and a fault ends the line
-    pub row-fault : decimal (take 4 (drop (from + 4 * i) s)) ≡ fault → columns (take (4 * count) (drop from s)) ≡ no 6
-    unfolding row_from behind in_front
-    row-fault e = sym up_to.rest ∙ rw (row_cons, e)
+    pub row-fault : decimal (take 4 (drop (from + 4 * i) s)) ≡ fault → {q : Question} → q ≡ Columns → (r : Result ℕ Question) → IsErrAnd r (λ d. d ≡ q)
+        → columns (take (4 * count) (drop from s)) ≡ row_asked r row
+    unfolding row_from behind in_front row_asked
+    row-fault e six (Ok n) same = absurd same
+    row-fault e six (Err d) same = let f : d ≡ Columns = cc in rw f (sym up_to.rest ∙ rw (row_cons, e))

@@ -1,2 +1,3 @@
+pub mod Kinds
 pub mod Rows
 pub mod RowLaws

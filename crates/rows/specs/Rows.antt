@@ -1,12 +1,12 @@
 -- A line by its bytes and its columns: where it ends, its filled columns, and its kind. Assumes nothing.
-use Rattle.std.specs.Prelude.{ℕ, zero, suc, ◌-◌, true, false, ◌&&◌, List, [], ◌∷◌, eqb, leb, ltb, length, take, drop}
+use Rattle.std.specs.Prelude.{ℕ, zero, suc, ◌-◌, true, false, ◌&&◌, List, [], ◌∷◌, eqb, leb, ltb, length, take, drop, Result, Ok, Err}
 use Rattle.definitions.specs.Sheet.{Line, Number}
 use Rattle.definitions.specs.Questions.{Asked, no, yes, ◌>>=◌, Parsed, within, rank, kind_of, columns_asked}
 use Rattle.encoding.specs.Signs.{numbers}
-use Rattle.rows.specs.declared.RowRead.{RowRead}
-use Rattle.rows.specs.declared.RowRead.TheVariants.{Filled, Fault}
+use Rattle.definitions.specs.Numbered.{question_number}
+use Rattle.definitions.specs.declared.Question.{Question}
 use Rattle.rows.specs.declared.LineStart.{LineStart}
-use Rattle.rows.specs.declared.LineStart.TheVariants.{No, Kind}
+use Rattle.rows.specs.Kinds.{number_of_kind}
 
 -- how many bytes stand before the first LF
 unfoldable pub line_length : List ℕ → ℕ
@@ -17,14 +17,15 @@ line_length (b ∷ bs) = elim (eqb b 10) [ true ↦ 0 | false ↦ suc (line_leng
 abbrev pub line_at : List ℕ → ℕ → ℕ → Line
 line_at sheet from end = record { bytes = take (end - from) (drop from sheet); ended = ltb end (length sheet) }
 
--- question 6, by what `read_row` hands back and the row of words: the filled columns, and how many there are
-unfoldable pub row_asked : RowRead → List ℕ → Asked (List Number)
-row_asked (Filled n) row = yes (numbers n row)
-row_asked Fault row = no 6
+-- question 6, by what `read_row` hands back and the row of words: the filled columns
+unfoldable pub row_asked : Result ℕ Question → List ℕ → Asked (List Number)
+row_asked (Ok n) row = yes (numbers n row)
+row_asked (Err q) row = no (question_number q)
 
-unfoldable pub row_count : RowRead → ℕ
-row_count (Filled n) = n
-row_count Fault = 0
+-- a count, by what `count` hands back and the columns behind it
+unfoldable pub counted : Result ℕ Question → List Number → Asked (Parsed ℕ)
+counted (Ok n) left = yes (record { found = n; left = left })
+counted (Err q) left = no (question_number q)
 
 -- question 7: the kind of a line by its first number, 0 where it is none that may stand here
 unfoldable pub kind_here : ℕ → Number → ℕ
@@ -45,11 +46,7 @@ kind_asked (suc k) ns = yes (record { found = suc k; left = ns })
 unfoldable pub start_of : ℕ → Line → Asked (Parsed ℕ)
 start_of before l = columns_asked l >>= kind_of before
 
--- and by what `read_line` hands back and the row: the kind and the filled columns behind it, and how many are filled
-unfoldable pub start_asked : LineStart → List ℕ → Asked (Parsed ℕ)
-start_asked (No q) row = no q
-start_asked (Kind k n) row = yes (record { found = k; left = drop 1 (numbers n row) })
-
-unfoldable pub start_count : LineStart → ℕ
-start_count (No q) = 0
-start_count (Kind k n) = n
+-- and by what `read_line` hands back and the row: the kind and the filled columns behind it
+unfoldable pub start_asked : Result LineStart Question → List ℕ → Asked (Parsed ℕ)
+start_asked (Ok s) row = yes (record { found = number_of_kind s.kind; left = drop 1 (numbers s.filled row) })
+start_asked (Err q) row = no (question_number q)

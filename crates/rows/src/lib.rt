@@ -1,29 +1,74 @@
 // The lines of a sheet: where one ends, its filled columns as words, and its kind.
 #![tactic(auto)]
 
-ghost use Rattle.std.specs.Prelude.{◌≡◌, ◌+◌, ◌*◌, ◌≤◌, length, take, drop};
-ghost use Rattle.definitions.specs.Questions.{columns, within, good_length, rank};
-ghost use Rattle.encoding.specs.Signs.{word_of, number_of, numbers};
-ghost use Rattle.rows.specs.Rows.{line_length, line_at, kind_here, row_kind, row_asked, row_count, start_of, start_asked, start_count};
+ghost use Rattle.std.specs.Prelude.{◌≡◌, ◌+◌, ◌*◌, ◌≤◌, length, map, take, drop, IfOk, ◌<◌};
+ghost use Rattle.definitions.specs.Questions.{columns, within, count, good_length, rank};
+ghost use Rattle.definitions.specs.Sheet.{plus};
+ghost use Rattle.encoding.specs.Signs.{number_of};
+ghost use Rattle.rows.specs.Kinds.{number_of_kind, kind_number, kind_numbered, kind_if};
+ghost use Rattle.rows.specs.Rows.{line_length, line_at, kind_here, row_kind, row_asked, start_of, start_asked, counted};
 
-use column::ColumnRead;
+use definitions::Question;
 use encoding::COLUMNS;
+use encoding::words::word_of;
 
 // The most bytes of a line, before its LF.
 const LINE_BYTES: usize = 4 * COLUMNS;
 
-// The columns of a line: how many of them are filled, or that one is at fault.
+// The kinds of lines by their numbers.
 #[derive(Clone, Copy, Drop)]
-enum RowRead {
-    Filled(usize),
-    Fault,
+pub enum Kind {
+    Constants = 1,
+    Symbol = 2,
+    Rule = 3,
+    Clause = 4,
+    TwoWay = 8,
 }
 
-// The start of a line: the first of questions 4 to 7 that is answered no, or its kind and how many columns are filled.
+impl Kind {
+    #[tactic(auto, unfolding(crate::specs::Kinds::kind_numbered))]
+    fn of_number(number: usize) -> Option<Kind>
+        ensures { result ≡ kind_numbered number }
+    {
+        match number {
+            1 => Some(Kind::Constants),
+            2 => Some(Kind::Symbol),
+            3 => Some(Kind::Rule),
+            4 => Some(Kind::Clause),
+            8 => Some(Kind::TwoWay),
+            _ => None,
+        }
+    }
+
+    // Its rank among the lines: a two-way rule stands among the rules.
+    #[tactic(auto, unfolding(definitions::specs::Questions::rank))]
+    fn rank(self) -> usize
+        ensures { result ≡ rank (number_of_kind self) }
+    {
+        match self {
+            Kind::TwoWay => 3,
+            kind => kind as usize,
+        }
+    }
+
+    // Whether a line of this kind may stand behind one of kind `before`, or as the first line.
+    #[tactic(auto, unfolding(crate::specs::Rows::kind_here, definitions::specs::Questions::within, definitions::specs::Questions::rank, definitions::specs::Sheet::plus))]
+    fn may_follow(self, before: Option<Kind>) -> bool
+        ensures { kind_if result self ≡ kind_here (kind_number before) (plus (number_of_kind self)) }
+    {
+        match (before, self) {
+            (None, Kind::Constants) => true,
+            (None, _) | (Some(_), Kind::Constants) => false,
+            (Some(before), kind) => before.rank() <= kind.rank(),
+        }
+    }
+}
+
+// The start of a line: its kind, and how many columns are filled.
 #[derive(Clone, Copy, Drop)]
-pub enum LineStart {
-    No(u8),
-    Kind { kind: usize, filled: usize },
+pub struct LineStart {
+    pub kind: Kind,
+    pub filled: usize,
 }
 
 // The place of the first LF from here on, or the sheet's length where there is none.
@@ -31,125 +76,85 @@ pub fn line_end(sheet: &[u8], from: usize) -> usize
     requires { from ≤ length sheet.now }
     ensures { result ≡ from + line_length (drop from sheet.now) }
 {
-    let mut at = from;
-    while at < sheet.len() {
-        if sheet[at] == 10 {
-            return at;
-        }
-        at += 1;
+    match sheet[from..].iter().position(|b| *b == b'\n') {
+        Some(at) => from + at,
+        None => sheet.len(),
     }
-    at
-}
-
-// A number as a word.
-fn word(negative: bool, size: u16) -> u16
-    requires { size ≤ 9999 }
-    ensures { result ≡ word_of negative size }
-{
-    if negative {
-        return 2 * size + 1;
-    }
-    2 * size
 }
 
 // Question 5: whether a line may have so many bytes.
+#[tactic(auto, unfolding(definitions::specs::Questions::good_length))]
 fn is_good_length(length: usize) -> bool
     ensures { result ≡ good_length length }
 {
-    if length < 4 {
-        return false;
-    }
-    if LINE_BYTES < length {
-        return false;
-    }
-    length % 4 == 0
+    4 <= length && length <= LINE_BYTES && length % 4 == 0
 }
 
-// Question 6: the filled columns of a line as words, from the row's first place on.
-fn read_row(sheet: &[u8], from: usize, count: usize, row: &mut [u16; COLUMNS]) -> RowRead
+// Question 6: the filled columns of a line as words, from the row's first place on; how many they are.
+fn read_row(
+    sheet: &[u8],
+    from: usize,
+    count: usize,
+    row: &mut [u16; COLUMNS],
+) -> Result<usize, Question>
     requires { (from + 4 * count ≤ length sheet.now) × (count ≤ 34) }
     ensures reads { columns (take (4 * count) (drop from sheet.now)) ≡ row_asked result row.new }
-    ensures fits { row_count result ≤ 34 }
+    ensures fits { IfOk result (λ n. n ≤ 34) }
 {
-    // Lent as a slice, the row shows its length, which the proof needs.
-    let _whole: &[u16] = row;
     let mut filled: usize = 0;
-    let mut i: usize = 0;
-    while i < count {
+    for i in 0..count {
         let at = from + 4 * i;
-        match column::read_column(sheet, at) {
-            ColumnRead::Number { negative, size } => {
-                row[filled] = word(negative, size);
-                filled += 1;
-            }
-            ColumnRead::Nothing => {}
-            ColumnRead::Fault => {
-                return RowRead::Fault;
-            }
+        if let Some(number) = column::read_column(sheet, at)? {
+            row[filled] = word_of(number.negative, number.size);
+            filled += 1;
         }
-        i += 1;
     }
-    RowRead::Filled(filled)
+    Ok(filled)
 }
 
 // Whether the number is from low to high.
-pub fn in_range(word: u16, low: usize, high: usize) -> bool
+#[tactic(auto, unfolding(definitions::specs::Questions::within, encoding::specs::Signs::number_of))]
+fn in_range(word: u16, low: usize, high: usize) -> bool
     ensures { result ≡ within low high (number_of word) }
 {
-    let w = encoding::wide(word);
-    if w % 2 == 1 {
-        return false;
-    }
-    let size = w / 2;
-    if size < low {
-        return false;
-    }
-    size <= high
+    let size = usize::from(word) / 2;
+    word % 2 == 0 && low <= size && size <= high
 }
 
-// The rank of a kind: kind 8 is ranked with kind 3.
-fn rank_of(kind: usize) -> usize
-    ensures { result ≡ rank kind }
+// Question 8 of a count: it stands in the column, and is from low to high.
+#[tactic(auto, unfolding(definitions::specs::Questions::count, definitions::specs::Questions::ask, crate::specs::Rows::counted, encoding::specs::Signs::number_of))]
+pub fn count(line: &[u16], column: usize, low: usize, high: usize) -> Result<usize, Question>
+    ensures asked { count 8 low high (drop column (map number_of line.now)) ≡ counted result (drop (column + 1) (map number_of line.now)) }
+    ensures fits { IfOk result (λ n. (column < length line.now) × (n ≤ high)) }
 {
-    if kind == 8 {
-        return 3;
+    match line.get(column) {
+        Some(word) if in_range(*word, low, high) => Ok(usize::from(*word) / 2),
+        _ => Err(Question::Counts),
     }
-    kind
 }
 
-// Question 7: the kind of a line by its first number, 0 where it is none that may stand here.
-fn kind_here(before: usize, word: u16) -> usize
-    ensures { result ≡ kind_here before (number_of word) }
+// Question 7: the kind of a line by its first number, if one is that may stand here.
+fn kind_here(before: Option<Kind>, word: u16) -> Option<Kind>
+    ensures { kind_number result ≡ kind_here (kind_number before) (number_of word) }
 {
-    if before == 0 {
-        if in_range(word, 1, 1) {
-            return 1;
-        }
-        return 0;
+    if word % 2 == 1 {
+        return None;
     }
-    if !in_range(word, 2, 8) {
-        return 0;
+    let kind = Kind::of_number(usize::from(word) / 2)?;
+    if kind.may_follow(before) {
+        return Some(kind);
     }
-    let kind = encoding::wide(word) / 2;
-    let here = rank_of(kind);
-    let least = rank_of(before);
-    if 4 < here {
-        return 0;
-    }
-    if here < least {
-        return 0;
-    }
-    kind
+    None
 }
 
 // The same by all its numbers: a line of blanks has none, and so no kind.
-fn row_kind(before: usize, row: &[u16; COLUMNS], filled: usize) -> usize
-    ensures { result ≡ row_kind before (numbers filled row.now) }
+fn row_kind(before: Option<Kind>, line: &[u16]) -> Option<Kind>
+    ensures { kind_number result ≡ row_kind (kind_number before) (map number_of line.now) }
 {
-    if 0 < filled {
-        return kind_here(before, row[0]);
+    match line {
+        [] => None,
+        [first, ..] => kind_here(before, *first),
     }
-    0
 }
 
 // Questions 4 to 7 of the line that ends here, behind one of kind `before`.
@@ -157,28 +162,23 @@ pub fn read_line(
     sheet: &[u8],
     from: usize,
     end: usize,
-    before: usize,
+    before: Option<Kind>,
     row: &mut [u16; COLUMNS],
-) -> LineStart
+) -> Result<LineStart, Question>
     requires { (from ≤ end) × (end ≤ length sheet.now) }
-    ensures reads { start_of before (line_at sheet.now from end) ≡ start_asked result row.new }
-    ensures fits { start_count result ≤ 34 }
+    ensures reads { start_of (kind_number before) (line_at sheet.now from end) ≡ start_asked result row.new }
+    ensures fits { IfOk result (λ s. s.filled ≤ 34) }
 {
     if end == sheet.len() {
-        return LineStart::No(4);
+        return Err(Question::LineEnd);
     }
     let length = end - from;
     if !is_good_length(length) {
-        return LineStart::No(5);
+        return Err(Question::LineLength);
     }
-    match read_row(sheet, from, length / 4, row) {
-        RowRead::Fault => LineStart::No(6),
-        RowRead::Filled(filled) => {
-            let kind = row_kind(before, row, filled);
-            if kind == 0 {
-                return LineStart::No(7);
-            }
-            LineStart::Kind { kind, filled }
-        }
-    }
+    let filled = read_row(sheet, from, length / 4, row)?;
+    let Some(kind) = row_kind(before, &row[..filled]) else {
+        return Err(Question::Kind);
+    };
+    Ok(LineStart { kind, filled })
 }

@@ -1,3 +1,2 @@
-pub mod SlotTurns
 pub mod VariableTurns
 pub mod FillingTurns

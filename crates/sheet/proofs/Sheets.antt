@@ -15,7 +15,7 @@ use Rattle.definitions.specs.Lists.{joined, distinct}
 use Rattle.definitions.specs.Words.{Clause, Problem, goal_atoms}
 use Rattle.definitions.specs.Sheet.{Line, lines}
 use Rattle.definitions.specs.Questions.{Asked, no, yes, Parsed, counted, columns_asked, Draft, read_line, refused, accepted, read_lines, empty_draft, read}
-use Rattle.theory.specs.Tests.{by-test, apart}
+use Rattle.theory.specs.Tests.{by-test}
 use Rattle.theory.specs.ListLaws.{none-empty, some-full}
 use Rattle.theory.specs.AskedLaws.{bind-yes, ask-yes}
 use Rattle.theory.specs.Limits.{line-begun}
@@ -27,11 +27,12 @@ use Rattle.lines.specs.LineReads.{Ready}
 use Rattle.sheet.specs.LineHolds.{LineHeld, SheetRead}
 use Rattle.sheet.specs.SheetLaws.{Started, draft-ready, start-refused, LineEnds, line-ends}
 use Rattle.encoding.specs.declared.Sizes.{Sizes}
+use Rattle.std.specs.Prelude.{Result, Ok, Err, map, take}
+use Rattle.definitions.specs.Numbered.{question_number}
+use Rattle.definitions.specs.declared.Question.{Question}
+use Rattle.encoding.specs.Signs.{number_of}
+use Rattle.rows.specs.Kinds.{number_of_kind}
 use Rattle.rows.specs.declared.LineStart.{LineStart}
-use Rattle.rows.specs.declared.LineStart.TheVariants.{No as NoStart, Kind}
-use Rattle.sheet.specs.declared.Read.TheVariants.{Accepted}
-use Rattle.lines.specs.declared.LineRead.{LineRead}
-use Rattle.lines.specs.declared.LineRead.TheVariants.{No, Yes}
 
 -- ── the tests before the loop ──
 
@@ -132,28 +133,28 @@ module _ {sheet arities rules : List ℕ} (starts : List ℕ) {literals table in
       }
 
   pub reached-end : {held : Arrays} {s : Sizes} {before from line : ℕ} → ReadUpTo sheet (arrays arities rules (set starts 0 0) literals table index) held s before from line
-      → length sheet ≤ from → SheetRead (read sheet) (Accepted s) (arrays arities rules starts literals table index) held
+      → length sheet ≤ from → SheetRead (read sheet) (Ok s) (arrays arities rules starts literals table index) held
   unfolding read_lines
   reached-end reached h =
       let none = drop_of_length-le sheet h in
       let all : read sheet ≡ accepted reached.draft.problem = sym reached.rest ∙ cc (lines_none) in
-      rw all (ap Accepted reached.sizes, reached.holds ∙ hold-zero arities rules starts literals table index reached.draft.problem)
+      rw all (ap Ok reached.sizes, reached.holds ∙ hold-zero arities rules starts literals table index reached.draft.problem)
 
 -- the line that starts there: its end, and questions 4 to 7 by what was handed back, its filled columns as words in a row
-pub record Starts (sheet : List ℕ) (before from end : ℕ) (start : LineStart) (row : List ℕ) : Type 0 where
+pub record Starts (sheet : List ℕ) (before from end : ℕ) (start : Result LineStart Question) (row : List ℕ) : Type 0 where
   pub more : from < length sheet
   pub ends : end ≡ from + line_length (drop from sheet)
   pub asked : start_of before (line_at sheet from end) ≡ start_asked start row
 
 -- what a line comes to, by the answer of its reader
 module _ (start : Arrays) (empty : start.index ≡ empty_index) (wide : length start.arities ≡ 16) where
-  ends-no : (m : Asked Draft) (k : ℕ) (r : LineRead) (after : Arrays) → LineEnds start empty wide m k r after → (q : ℕ) → r ≡ No q → m ≡ no q
-  ends-no (no p) k r after h q e = cc
-  ends-no (yes d) k r after h q e = let g = h.1 in apart (cc)
+  ends-no : (m : Asked Draft) (k : ℕ) (r : Result Sizes Question) (after : Arrays) → LineEnds start empty wide m k r after → (e : Question) → r ≡ Err e → m ≡ no (question_number e)
+  ends-no (no p) k r after h e f = let g : question_number e ≡ p = rw f at h in ap no (sym g)
+  ends-no (yes d) k r after h e f = let g = h.1 in cc
 
-  ends-yes : (m : Asked Draft) (k : ℕ) (r : LineRead) (after : Arrays) → LineEnds start empty wide m k r after → (s : Sizes) → r ≡ Yes s
+  ends-yes : (m : Asked Draft) (k : ℕ) (r : Result Sizes Question) (after : Arrays) → LineEnds start empty wide m k r after → (s : Sizes) → r ≡ Ok s
       → (d : Draft) × (m ≡ yes d) × (d.before ≡ k) × (s ≡ sizes_of d.problem) × (after ≡ hold d.problem start)
-  ends-yes (no p) k r after h s e = apart (cc)
+  ends-yes (no p) k r after h s e = absurd (rw e at h)
   ends-yes (yes d) k r after h s e = let g = h.1 in (d, refl, h.0, (cc), h.2)
 
 module _ {sheet : List ℕ} {start held : Arrays} {s : Sizes} {before from line : ℕ} (reached : ReadUpTo sheet start held s before from line) where
@@ -162,7 +163,7 @@ module _ {sheet : List ℕ} {start held : Arrays} {s : Sizes} {before from line 
       rw (reached.sizes, reached.holds)
       (draft-ready start reached.empty reached.wide reached.draft reached.started)
 
-  module _ {end : ℕ} {handed : LineStart} {row : List ℕ} (starts : Starts sheet before from end handed row) where
+  module _ {end : ℕ} {handed : Result LineStart Question} {row : List ℕ} (starts : Starts sheet before from end handed row) where
     asked : start_of reached.draft.before (line_at sheet from end) ≡ start_asked handed row
     asked = rw reached.kind starts.asked
 
@@ -172,27 +173,30 @@ module _ {sheet : List ℕ} {start held : Arrays} {s : Sizes} {before from line 
     line_refused q e = sym reached.rest ∙ cc (line_first sheet from end starts.more starts.ends)
 
     -- one of questions 4 to 7 is answered no
-    pub start-stop : {q : ℕ} → handed ≡ NoStart q → read sheet ≡ refused q line
+    pub start-stop : {q : Question} → handed ≡ Err q → read sheet ≡ refused (question_number q) line
     unfolding start_asked
-    start-stop {q} e = line_refused q (start-refused reached.draft _ q (asked ∙ rw e))
+    start-stop {q} e = line_refused (question_number q) (start-refused reached.draft _ (question_number q) (asked ∙ rw e))
 
-    module _ {kind filled : ℕ} (e : handed ≡ Kind kind filled) where
-      kind-asked : start_of reached.draft.before (line_at sheet from end) ≡ yes (record { found = kind; left = drop 1 (numbers filled row) })
-      unfolding start_asked
+    module _ {st : LineStart} (e : handed ≡ Ok st) where
+      abbrev kind : ℕ
+      kind = number_of_kind st.kind
+
+      kind-asked : start_of reached.draft.before (line_at sheet from end) ≡ yes (record { found = kind; left = drop 1 (map number_of (take st.filled row)) })
+      unfolding start_asked numbers
       kind-asked = asked ∙ rw e
 
-      module _ (answer : LineRead) (after : Arrays) (line-held : LineHeld kind (drop 1 (numbers filled row)) answer s held after) where
+      module _ (answer : Result Sizes Question) (after : Arrays) (line-held : LineHeld kind (drop 1 (map number_of (take st.filled row))) answer s held after) where
         ended : LineEnds start reached.empty reached.wide (read_line reached.draft (line_at sheet from end)) kind answer after
         ended =
             line-ends start reached.empty reached.wide reached.draft reached.started _ kind _ kind-asked answer after
             (rw (reached.sizes, reached.holds) at line-held)
 
         -- one of questions 8 to 14 is answered no
-        pub line-stop : {q : ℕ} → answer ≡ No q → read sheet ≡ refused q line
-        line-stop {q} f = line_refused q (ends-no start reached.empty reached.wide _ kind answer after ended q f)
+        pub line-stop : {q : Question} → answer ≡ Err q → read sheet ≡ refused (question_number q) line
+        line-stop {q} f = line_refused (question_number q) (ends-no start reached.empty reached.wide _ kind answer after ended q f)
 
         -- the line is read, and the next one stands behind its LF
-        pub reached-next : {next : Sizes} → answer ≡ Yes next → ReadUpTo sheet start after next kind (end + 1) (line + 1)
+        pub reached-next : {next : Sizes} → answer ≡ Ok next → ReadUpTo sheet start after next kind (end + 1) (line + 1)
         unfolding read_lines
         reached-next {next} f =
             let (d, q, k, z, h) = ends-yes start reached.empty reached.wide _ kind answer after ended next f in

@@ -1,5 +1,5 @@
 -- A line of any kind, by what the questions come to and what it leaves in all arrays; and so the whole sheet. Assumes nothing.
-use Rattle.std.specs.Prelude.{ℕ, ◌+◌, ◌*◌, ◌≡◌, true, false, List, eqb, length, set, take}
+use Rattle.std.specs.Prelude.{ℕ, ◌+◌, ◌*◌, ◌≡◌, true, false, List, eqb, length, set, take, Result, Ok, Err}
 use Rattle.std.proofs.lemmas.List.Edits.{sets}
 use Rattle.definitions.specs.Lists.{joined}
 use Rattle.definitions.specs.Words.{Clause, RuleLine, one_way, two_way}
@@ -9,11 +9,9 @@ use Rattle.encoding.specs.Slots.{rule_words}
 use Rattle.literals.specs.Entering.{Entered}
 use Rattle.encoding.specs.Encoding.{Arrays, arrays, hold, sizes_of}
 use Rattle.encoding.specs.declared.Sizes.{Sizes}
-use Rattle.sheet.specs.declared.Read.{Read}
-use Rattle.sheet.specs.declared.Read.TheVariants.{Refused, Accepted}
-use Rattle.lines.specs.declared.LineRead.{LineRead}
-use Rattle.lines.specs.declared.LineRead.TheVariants.{No, Yes}
-use Rattle.lines.specs.LineReads.{more_constants, more_symbols, more_rules, clause_entered, clause_answer}
+use Rattle.definitions.specs.declared.Question.{Question}
+use Rattle.definitions.specs.declared.Refusal.{Refusal}
+use Rattle.lines.specs.LineReads.{Refuses, more_constants, more_symbols, more_rules, clause_entered, clause_answer}
 
 unfoldable pub with_arities : Arrays → List ℕ → Arrays
 with_arities a xs = arrays xs a.rules a.starts a.literals a.table a.index
@@ -24,27 +22,27 @@ with_rules a xs = arrays a.arities xs a.starts a.literals a.table a.index
 unfoldable pub with_entered : Arrays → List ℕ → Entered → Arrays
 with_entered a starts e = arrays a.arities a.rules starts e.literals e.table e.index
 
-abbrev pub ConstantsHeld : Asked ℕ → LineRead → Sizes → Arrays → Arrays → Type 0
-ConstantsHeld (no q) r s before after = r ≡ No q
-ConstantsHeld (yes n) r s before after = (r ≡ Yes (more_constants n s)) × (after ≡ before)
+abbrev pub ConstantsHeld : Asked ℕ → Result Sizes Question → Sizes → Arrays → Arrays → Type 0
+ConstantsHeld (no q) r s before after = Refuses r q
+ConstantsHeld (yes n) r s before after = (r ≡ Ok (more_constants n s)) × (after ≡ before)
 
-abbrev pub SymbolHeld : Asked ℕ → LineRead → Sizes → Arrays → Arrays → Type 0
-SymbolHeld (no q) r s before after = r ≡ No q
-SymbolHeld (yes n) r s before after = (r ≡ Yes (more_symbols s)) × (after ≡ with_arities before (set before.arities s.symbols n))
+abbrev pub SymbolHeld : Asked ℕ → Result Sizes Question → Sizes → Arrays → Arrays → Type 0
+SymbolHeld (no q) r s before after = Refuses r q
+SymbolHeld (yes n) r s before after = (r ≡ Ok (more_symbols s)) × (after ≡ with_arities before (set before.arities s.symbols n))
 
-abbrev pub RuleHeld : {A : Type 0} → (A → RuleLine) → Asked A → LineRead → Sizes → Arrays → Arrays → Type 0
-RuleHeld line (no q) r s before after = r ≡ No q
+abbrev pub RuleHeld : {A : Type 0} → (A → RuleLine) → Asked A → Result Sizes Question → Sizes → Arrays → Arrays → Type 0
+RuleHeld line (no q) r s before after = Refuses r q
 RuleHeld line (yes x) r s before after =
-    (r ≡ Yes (more_rules (line x) s)) × (after ≡ with_rules before (sets before.rules (22 * s.rules) (joined rule_words (rules_of (line x)))))
+    (r ≡ Ok (more_rules (line x) s)) × (after ≡ with_rules before (sets before.rules (22 * s.rules) (joined rule_words (rules_of (line x)))))
 
-abbrev pub ClauseEntersHeld : Asked Clause → LineRead → Sizes → Arrays → Arrays → Type 0
-ClauseEntersHeld (no q) r s before after = r ≡ No q
+abbrev pub ClauseEntersHeld : Asked Clause → Result Sizes Question → Sizes → Arrays → Arrays → Type 0
+ClauseEntersHeld (no q) r s before after = Refuses r q
 ClauseEntersHeld (yes c) r s before after =
     (r ≡ clause_answer (clause_entered c s before.literals before.table before.index) s)
     × (after ≡ with_entered before (set before.starts (s.clauses + 1) (s.literals + length c)) (clause_entered c s before.literals before.table before.index))
 
 -- 8 to 14 of a line of kind k, of its columns behind the kind
-abbrev pub LineHeld : ℕ → List Number → LineRead → Sizes → Arrays → Arrays → Type 0
+abbrev pub LineHeld : ℕ → List Number → Result Sizes Question → Sizes → Arrays → Arrays → Type 0
 LineHeld k ns r s before after =
     elim (eqb k 1) [
       | true ↦ ConstantsHeld (constants_asked ns) r s before after
@@ -61,6 +59,6 @@ LineHeld k ns r s before after =
     ]
 
 -- the whole sheet: the refusal, or the sizes and the arrays that hold the problem
-abbrev pub SheetRead : Reading → Read → Arrays → Arrays → Type 0
-SheetRead (refused q n) r before after = r ≡ Refused (record { number = q; line = n })
-SheetRead (accepted p) r before after = (r ≡ Accepted (sizes_of p)) × (after ≡ hold p before)
+abbrev pub SheetRead : Reading → Result Sizes Refusal → Arrays → Arrays → Type 0
+SheetRead (refused q n) r before after = r ≡ Err (record { number = q; line = n })
+SheetRead (accepted p) r before after = (r ≡ Ok (sizes_of p)) × (after ≡ hold p before)

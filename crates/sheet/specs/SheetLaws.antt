@@ -24,11 +24,12 @@ use Rattle.encoding.specs.Encoding.{Arrays, empty_index, sizes_of, hold}
 use Rattle.literals.specs.HeldClauseLaws.{entered_of, hold-index-within, clause-held}
 use Rattle.sheet.specs.HoldingLaws.{hold-symbol, hold-line, hold-clause}
 use Rattle.encoding.specs.HoldLaws.{Encodable, limits-encodable}
-use Rattle.lines.specs.LineReads.{more_constants, more_symbols, more_rules, more_clauses, clause_entered, clause_answer, Ready}
+use Rattle.lines.specs.LineReads.{Refuses, more_constants, more_symbols, more_rules, more_clauses, clause_entered, clause_answer, Ready}
 use Rattle.sheet.specs.LineHolds.{with_arities, with_rules, with_entered, ConstantsHeld, SymbolHeld, RuleHeld, ClauseEntersHeld, LineHeld}
 use Rattle.encoding.specs.declared.Sizes.{Sizes}
-use Rattle.lines.specs.declared.LineRead.{LineRead}
-use Rattle.lines.specs.declared.LineRead.TheVariants.{No, Yes}
+use Rattle.std.specs.Prelude.{Result, Ok, Err}
+use Rattle.definitions.specs.declared.Question.{Question}
+use Rattle.definitions.specs.declared.Question.TheVariants.{Goals}
 
 literals-more : (p : Problem) (c : Clause) → length (joined (λ (x : Clause). x) (with_clause p c).clauses) ≡ length (joined (λ (x : Clause). x) p.clauses) + length c
 unfolding with_clause joined
@@ -88,21 +89,21 @@ module _ (before : Arrays) (empty : before.index ≡ empty_index) (wide : length
   -- ── a line of each kind ──
 
   -- what the questions come to, what the reader answers, and what the arrays hold then
-  abbrev pub LineNext : Asked Problem → LineRead → Arrays → Type 0
-  LineNext (no q) r after = r ≡ No q
-  LineNext (yes p) r after = (r ≡ Yes (sizes_of p)) × (after ≡ hold p before)
+  abbrev pub LineNext : Asked Problem → Result Sizes Question → Arrays → Type 0
+  LineNext (no q) r after = Refuses r q
+  LineNext (yes p) r after = (r ≡ Ok (sizes_of p)) × (after ≡ hold p before)
 
-  constants-next : (p : Problem) (m : Asked ℕ) (r : LineRead) (after : Arrays) → ConstantsHeld m r (sizes_of p) (hold p before) after
+  constants-next : (p : Problem) (m : Asked ℕ) (r : Result Sizes Question) (after : Arrays) → ConstantsHeld m r (sizes_of p) (hold p before) after
       → LineNext (m >>= λ n. yes (with_constants p n)) r after
   unfolding ◌>>=◌ sizes_of more_constants with_constants hold
   constants-next p (no q) r after h = h
   constants-next p (yes n) r after h = h
 
-  symbol-next : (p : Problem) (m : Asked ℕ) (r : LineRead) (after : Arrays) → SymbolHeld m r (sizes_of p) (hold p before) after
+  symbol-next : (p : Problem) (m : Asked ℕ) (r : Result Sizes Question) (after : Arrays) → SymbolHeld m r (sizes_of p) (hold p before) after
       → LineNext (m >>= λ n. yes (with_symbol p n)) r after
   unfolding ◌>>=◌ sizes_of more_symbols with_symbol with_arities
   symbol-next p (no q) r after h = h
-  symbol-next p (yes n) r after h = (h.0 ∙ ap (λ k. Yes (with-symbols k)) (sym (length-append p.arities (n ∷ []))), h.1 ∙ hold-symbol p before n)
+  symbol-next p (yes n) r after h = (h.0 ∙ ap (λ k. Ok (with-symbols k)) (sym (length-append p.arities (n ∷ []))), h.1 ∙ hold-symbol p before n)
     where
       with-symbols : ℕ → Sizes
       with-symbols k = record { constants = p.constants; symbols = k; rules = length p.rules; counted = counted p.rule_lines; clauses = length p.clauses; atoms = length (goal_atoms p.clauses); literals = length (joined (λ (c : Clause). c) p.clauses) }
@@ -111,11 +112,11 @@ module _ (before : Arrays) (empty : before.index ≡ empty_index) (wide : length
   unfolding more_rules sizes_of with_line
   line-sizes p l = cc (length-append p.rules (rules_of l), counted-more p.rule_lines l)
 
-  rule-next : {A : Type 0} (line : A → RuleLine) (p : Problem) (m : Asked A) (r : LineRead) (after : Arrays) → RuleHeld line m r (sizes_of p) (hold p before) after
+  rule-next : {A : Type 0} (line : A → RuleLine) (p : Problem) (m : Asked A) (r : Result Sizes Question) (after : Arrays) → RuleHeld line m r (sizes_of p) (hold p before) after
       → LineNext (m >>= λ x. yes (with_line p (line x))) r after
   unfolding ◌>>=◌ sizes_of with_rules
   rule-next line p (no q) r after h = h
-  rule-next line p (yes x) r after h = (h.0 ∙ ap Yes (line-sizes p (line x)), h.1 ∙ hold-line p before (line x))
+  rule-next line p (yes x) r after h = (h.0 ∙ ap Ok (line-sizes p (line x)), h.1 ∙ hold-line p before (line x))
 
   clause-sizes : (p : Problem) (c : Clause) → more_clauses (entered_of (with_clause p c) before) (sizes_of p) ≡ sizes_of (with_clause p c)
   unfolding more_clauses sizes_of with_clause
@@ -125,7 +126,7 @@ module _ (before : Arrays) (empty : before.index ≡ empty_index) (wide : length
       with-clauses k = record { constants = p.constants; symbols = length p.arities; rules = length p.rules; counted = counted p.rule_lines; clauses = k; atoms = length (goal_atoms (p.clauses ++ (c ∷ []))); literals = length (joined (λ (x : Clause). x) (p.clauses ++ (c ∷ []))) }
 
   -- the answer and the arrays once the clause has entered
-  entered-next : (p : Problem) (c : Clause) (e : Entered) → e ≡ entered_of (with_clause p c) before → (r : LineRead) (after : Arrays) (ends : ℕ)
+  entered-next : (p : Problem) (c : Clause) (e : Entered) → e ≡ entered_of (with_clause p c) before → (r : Result Sizes Question) (after : Arrays) (ends : ℕ)
       → ends ≡ length (joined (λ (x : Clause). x) (with_clause p c).clauses)
       → r ≡ clause_answer e (sizes_of p)
       → after ≡ with_entered (hold p before) (set (hold p before).starts (length p.clauses + 1) ends) e
@@ -133,14 +134,14 @@ module _ (before : Arrays) (empty : before.index ≡ empty_index) (wide : length
   unfolding ◌>>◌ ask clause_answer with_entered
   entered-next p c e q r after ends f h g =
       by-test (leb (length (goal_atoms (with_clause p c).clauses)) 64)
-      (λ t. rw (t, ask) (h ∙ ap answer q ∙ rw (t, clause_answer) (ap Yes (clause-sizes p c)), g ∙ rw (f ∙ ap (λ (x : Entered). x.count) (sym q)) (hold-clause p before c e q)))
-      (λ t. rw (t, ask) (h ∙ ap answer q ∙ rw (t, clause_answer) refl))
+      (λ t. rw (t, ask) (h ∙ ap answer q ∙ rw (t, clause_answer) (ap Ok (clause-sizes p c)), g ∙ rw (f ∙ ap (λ (x : Entered). x.count) (sym q)) (hold-clause p before c e q)))
+      (λ t. rw (t, ask) (let no_room : r ≡ Err Goals = h ∙ ap answer q ∙ rw (t, clause_answer) refl in rw no_room refl))
     where
-      answer : Entered → LineRead
+      answer : Entered → Result Sizes Question
       answer x = clause_answer x (sizes_of p)
 
   clause-next : (p : Problem) → Encodable p → (m : Asked Clause) → ((c : Clause) → m ≡ yes c → (l : Literal) → l ∈ c → LiteralLimits p l)
-      → (r : LineRead) (after : Arrays) → ClauseEntersHeld m r (sizes_of p) (hold p before) after
+      → (r : Result Sizes Question) (after : Arrays) → ClauseEntersHeld m r (sizes_of p) (hold p before) after
       → LineNext (m >>= λ c. ask 13 (leb (length (goal_atoms (with_clause p c).clauses)) 64) >> yes (with_clause p c)) r after
   unfolding ◌>>=◌ sizes_of clause_entered
   clause-next p limits (no q) keeps r after h = h
@@ -158,7 +159,7 @@ module _ (before : Arrays) (empty : before.index ≡ empty_index) (wide : length
       nothing : Encodable empty_draft.problem
       nothing = unfold empty_draft in record { codes = record { few = omega arith; symbols = omega arith; each_arity = λ n m. absurd (Memᴰ.not-nil m) }; literals = λ c m. absurd (Memᴰ.not-nil m) }
 
-  kind-next : (d : Draft) → Started d → (k : ℕ) (ns : List Number) (r : LineRead) (after : Arrays)
+  kind-next : (d : Draft) → Started d → (k : ℕ) (ns : List Number) (r : Result Sizes Question) (after : Arrays)
       → LineHeld k ns r (sizes_of d.problem) (hold d.problem before) after → LineNext (line_of_kind k d.problem ns) r after
   unfolding line_of_kind constants_line symbol_line rule_line two_way_line clause_line sizes_of
   kind-next d i k ns r after h =
@@ -205,12 +206,12 @@ kind-found d l k ns e = cc (after-start d l)
 
 module _ (before : Arrays) (empty : before.index ≡ empty_index) (wide : length before.arities ≡ 16) where
   -- what a line comes to, what the reader answers, and what the arrays hold then
-  abbrev pub LineEnds : Asked Draft → ℕ → LineRead → Arrays → Type 0
-  LineEnds (no q) k r after = r ≡ No q
-  LineEnds (yes e) k r after = (e.before ≡ k) × (r ≡ Yes (sizes_of e.problem)) × (after ≡ hold e.problem before)
+  abbrev pub LineEnds : Asked Draft → ℕ → Result Sizes Question → Arrays → Type 0
+  LineEnds (no q) k r after = Refuses r q
+  LineEnds (yes e) k r after = (e.before ≡ k) × (r ≡ Ok (sizes_of e.problem)) × (after ≡ hold e.problem before)
 
   pub line-ends : (d : Draft) → Started d → (l : Line) (k : ℕ) (ns : List Number) → start_of d.before l ≡ yes (record { found = k; left = ns })
-      → (r : LineRead) (after : Arrays) → LineHeld k ns r (sizes_of d.problem) (hold d.problem before) after → LineEnds (read_line d l) k r after
+      → (r : Result Sizes Question) (after : Arrays) → LineHeld k ns r (sizes_of d.problem) (hold d.problem before) after → LineEnds (read_line d l) k r after
   line-ends d i l k ns e r after h =
       rw (kind-found d l k ns e) (from (line_of_kind k d.problem ns) (kind-next before empty wide d i k ns r after h))
     where

@@ -1,10 +1,9 @@
 -- The words of a clause that are not false are those of its literals that are not false. Assumes nothing.
-use Rattle.std.specs.Prelude.{ℕ, ◌≡◌, Bool, true, false, eqb}
+use Rattle.std.specs.Prelude.{ℕ, ◌≡◌, Bool, true, false, eqb, List, [], ◌∷◌, map}
 use Rattle.std.proofs.Math.Path.{refl, ap}
 use Rattle.std.proofs.Common.{sym, ◌∙◌}
 use Rattle.std.proofs.Math.Bool.{not}
 use mathlib.Core.List.Memᴰ
-use mathlib.Core.List.{List, [], ◌∷◌, map}
 use Rattle.definitions.specs.Lists.{◌∈◌, all, filter, distinct}
 use Rattle.definitions.specs.Words.{Atom, Literal, negate, same_literal, Clause}
 use Rattle.definitions.specs.Search.{Trail, is_true, is_false, is_unset, not_false}

@@ -1,13 +1,10 @@
 -- The first unset position among those of the goal atoms: by the low zeros of a word, and that it is the place of the first unset goal atom.
 -- Assumes nothing.
-use Prim.Native.Nat.{ℕ, zero, suc, ◌+◌, ◌-◌, ◌*◌, ◌/◌, ◌%◌, ◌^◌, ◌≤◌, ◌<◌}
-use Rattle.std.specs.Prelude.{◌≡◌, refl, true, false, not, length}
-use Rattle.std.proofs.Common.{sym, ◌∙◌, ap, inl, inr, pow-suc}
+use Rattle.std.specs.Prelude.{◌≡◌, refl, true, false, not, length, ℕ, zero, suc, ◌+◌, ◌-◌, ◌*◌, ◌/◌, ◌%◌, ◌^◌, ◌≤◌, ◌<◌, List, [], ◌∷◌, ◌++◌}
+use Rattle.std.proofs.Common.{sym, ◌∙◌, ap, inl, inr, pow-suc, append_assoc, arith}
 use Rattle.std.proofs.Math.Bool.{and-true}
 use Rattle.std.proofs.Math.Option.{none, some}
 use mathlib.Core.List.Memᴰ
-use mathlib.Core.List.{List, [], ◌∷◌, ◌++◌, append_assoc}
-use native.Mathlib.Omega.{arith}
 use Rattle.std.specs.Int.Bits.{bit_and, mask_lt}
 use Rattle.std.specs.Int.Count.{count_trailing_zeros, trailing_of_zero}
 use Rattle.std.proofs.lemmas.Nat.{trailing_le}

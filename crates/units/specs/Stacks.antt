@@ -1,8 +1,8 @@
 -- A list, latest first, in the front of an array, earliest first: pushed, popped and read at its places. And how its words are cleared. Assumes nothing.
-use Rattle.std.specs.Prelude.{ℕ, suc, ◌+◌, ◌-◌, ◌≤◌, ◌<◌, ◌≡◌, refl, eqb, length, get_or, set, take, drop}
+use Rattle.std.specs.Prelude.{ℕ, suc, ◌+◌, ◌-◌, ◌≤◌, ◌<◌, ◌≡◌, refl, eqb, length, get_or, set, take, drop, List, [], ◌∷◌, ◌++◌, map, reverse}
 use Rattle.std.proofs.Common.{sym, ◌∙◌, ap, subst, arith, length-take, length-drop, take-suc, take_at, take-take, take-suc-set, get_or-take, get_or-drop, eqb-true}
 use mathlib.Core.List.Memᴰ
-use mathlib.Core.List.{List, [], ◌∷◌, ◌++◌, map, reverse, reverse-cons, map-append}
+use mathlib.Core.List.{reverse-cons, map-append}
 use Rattle.std.proofs.lemmas.List.{length-map, length-reverse, get_or_at}
 use Rattle.std.proofs.lemmas.Bool.{eqb-false}
 use Rattle.definitions.specs.Lists.{◌∈◌}

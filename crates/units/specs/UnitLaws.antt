@@ -1,14 +1,10 @@
 -- Step A over the arrays is step A of the definitions, clause by clause. Assumes nothing.
-use Prim.Native.Nat.{ℕ, suc, ◌+◌, ◌-◌, ◌*◌, ◌≤◌, ◌<◌}
-use Rattle.std.specs.Prelude.{◌≡◌, Bool, true, false, eqb, leb, ltb, take, drop}
+use Rattle.std.specs.Prelude.{◌≡◌, Bool, true, false, eqb, leb, ltb, take, drop, ℕ, suc, ◌+◌, ◌-◌, ◌*◌, ◌≤◌, ◌<◌, List, [], ◌∷◌, ◌++◌, map}
 use Rattle.std.proofs.Math.Path.{refl, sym, ap}
-use Rattle.std.proofs.Common.{◌∙◌, subst, length-take, take-take, take_all, take-add}
+use Rattle.std.proofs.Common.{◌∙◌, subst, length-take, take-take, take_all, take-add, arith, eqb-true, leb-true, leb-false, lt-ltb, le-ltb}
 use Rattle.std.proofs.Math.Option.{Option, none, some}
 use mathlib.Core.List.Memᴰ
-use mathlib.Core.List.{List, [], ◌∷◌, ◌++◌, map}
-use native.Mathlib.Omega.{arith}
 use Rattle.std.proofs.Math.ListN.{length, get_or, get_elem?}
-use borrow.Author.Tests.{eqb-true, leb-true, leb-false, lt-ltb, le-ltb}
 use Rattle.definitions.specs.Lists.{◌∈◌, all, first_some}
 use Rattle.definitions.specs.Words.{Atom, Literal, negate, same_atom, Clause, goal_atoms, position}
 use Rattle.definitions.specs.Instances.{Task}

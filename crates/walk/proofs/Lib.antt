@@ -1,4 +1,3 @@
-pub mod AwakeTurns
 pub mod CandidateTurns
 pub mod WalkTurns
 pub mod MaskedWalkLaws

@@ -1,135 +1,55 @@
 -- `lines::clause_line` meets its contract: the count return by return, then the clause by what its slots hold. Assumes nothing.
-use Prim.Native.Nat.{◌≤◌}
-use mathlib.Core.Path.{◌≡◌, sym, ◌∙◌}
-use mathlib.Core.Bool.{true}
-use native.Mathlib.Omega.{arith}
-use lib.ListN.{length, get_or, take, length-take}
-use Rattle.definitions.specs.Questions.{within}
-use Rattle.encoding.specs.Signs.{number_of}
+use Rattle.std.proofs.Common.{arith, refl, sym, ◌∙◌, ◌≤◌, length, take, length-take}
+use Rattle.std.proofs.lemmas.Bool.{eqb-false}
+use Rattle.rows.specs.Rows.{counted}
 use Rattle.lines.specs.LineReads.{more_clauses}
-use Rattle.lines.proofs.ClauseLines.{clause-refused, literals-missing, literals-out, clauses-full, ClauseCounted, clause-few, clause-unread, clause-over, clause-slots, clause-many, clause-read}
+use Rattle.lines.proofs.CountColumns.{handed, words-from}
+use Rattle.lines.proofs.ClauseLines.{clause-refused, clause-uncounted, clauses-full, clause-unread, clause-over, clause-slots, clause-many, clause-read}
 use Rattle.lines.proofs.clause_line.Goals as goal
 
-pub returns-then-n-lt2 : goal.returns-then-n-lt2
-returns-then-n-lt2 c = clause-refused _ _ _ _ _ _ _ _ _ (literals-missing _ _ _ _ _ c.if-n-lt2.true)
-
-pub returns-then-not-in_range : goal.returns-then-not-in_range
-returns-then-not-in_range c = clause-refused _ _ _ _ _ _ _ _ _ (literals-out _ _ _ _ _ (omega arith) (omega arith) (sym c.in_range.ensures ∙ c.if-not-in_range.true))
+pub returns-in_err-count : goal.returns-in_err-count
+unfolding counted
+returns-in_err-count c = clause-refused _ _ _ _ _ _ _ _ _ _ (clause-uncounted _ _ _ _ c.in_err-count.ensures.asked) (handed _ _ c.from_residual.ensures.1 refl)
 
 pub returns-then-clauses-eq-CLAUSES : goal.returns-then-clauses-eq-CLAUSES
-returns-then-clauses-eq-CLAUSES c =
-    let count-in : within 0 8 (number_of (get_or c.args.row.now 1 0)) ≡ true = sym c.in_range.ensures ∙ c.if-not-in_range.false
-    in
-    clause-refused _ _ _ _ _ _ _ _ _ (clauses-full _ _ _ _ _ (omega arith) (omega arith) count-in c.if-clauses-eq-CLAUSES.true)
+unfolding counted
+returns-then-clauses-eq-CLAUSES c = clause-refused _ _ _ _ _ _ _ _ _ _ (clauses-full _ _ _ _ c.in_ok-count.ensures.asked c.if-clauses-eq-CLAUSES.true) refl
 
-pub read_slots-next-requires : goal.read_slots-next-requires
-read_slots-next-requires c =
-    let count-in : within 0 8 (number_of (get_or c.args.row.now 1 0)) ≡ true = sym c.in_range.ensures ∙ c.if-not-in_range.false
-    in
-    let counted : ClauseCounted c.args.n c.args.row.now c.args.s c.wide-count.result =
-    record {
-      fits = omega arith;
-      two = omega arith;
-      read = count-in;
-      room = omega (arith, c.requires.1.clauses);
-      word = c.wide-count.ensures.0;
-    }
-    in
-    let ready = c.requires.1 in
-    (ready.symbols, ready.arity, omega arith, omega arith, clause-few counted)
+pub returns-in_err-left : goal.returns-in_err-left
+unfolding counted
+returns-in_err-left c =
+    clause-refused _ _ _ _ _ _ _ _ _ _
+    (clause-unread _ c.args.s _ _ _ _ c.in_ok-count.ensures.asked (omega (arith, c.requires.clauses)) _ (rw words-from at c.in_err-left.ensures)) (handed _ _ c.from_residual-in_err-left.ensures.1 refl)
 
-pub returns-then-next-eq0 : goal.returns-then-next-eq0
-returns-then-next-eq0 c =
-    let count-in : within 0 8 (number_of (get_or c.args.row.now 1 0)) ≡ true = sym c.in_range.ensures ∙ c.if-not-in_range.false
-    in
-    let counted : ClauseCounted c.args.n c.args.row.now c.args.s c.wide-count.result =
-    record {
-      fits = omega arith;
-      two = omega arith;
-      read = count-in;
-      room = omega (arith, c.requires.1.clauses);
-      word = c.wide-count.ensures.0;
-    }
-    in
-    clause-refused _ _ _ _ _ _ _ _ _ (clause-unread _ _ _ (take c.args.s.symbols c.args.arities.now) _ _ _ _ counted c.read_slots-next.ensures c.if-next-eq0.true)
-
-pub returns-then-next-n : goal.returns-then-next-n
-returns-then-next-n c =
-    let count-in : within 0 8 (number_of (get_or c.args.row.now 1 0)) ≡ true = sym c.in_range.ensures ∙ c.if-not-in_range.false
-    in
-    let counted : ClauseCounted c.args.n c.args.row.now c.args.s c.wide-count.result =
-    record {
-      fits = omega arith;
-      two = omega arith;
-      read = count-in;
-      room = omega (arith, c.requires.1.clauses);
-      word = c.wide-count.ensures.0;
-    }
-    in
-    clause-refused _ _ _ _ _ _ _ _ _ (clause-over _ _ _ (take c.args.s.symbols c.args.arities.now) _ _ _ _ counted c.read_slots-next.ensures c.if-next-eq0.false c.if-next-n.true)
+pub returns-then-not-is_empty : goal.returns-then-not-is_empty
+unfolding counted
+returns-then-not-is_empty c =
+    clause-refused _ _ _ _ _ _ _ _ _ _
+    (clause-over _ c.args.s _ _ _ _ c.in_ok-count.ensures.asked (omega (arith, c.requires.clauses)) _ (rw words-from at c.in_ok-left.ensures) (eqb-false _ 0 (sym c.is_empty.ensures ∙ c.if-not-is_empty.true))) refl
 
 pub enter_clause-atoms-requires : goal.enter_clause-atoms-requires
+unfolding counted
 enter_clause-atoms-requires c =
-    let count-in : within 0 8 (number_of (get_or c.args.row.now 1 0)) ≡ true = sym c.in_range.ensures ∙ c.if-not-in_range.false
-    in
-    let counted : ClauseCounted c.args.n c.args.row.now c.args.s c.wide-count.result =
-    record {
-      fits = omega arith;
-      two = omega arith;
-      read = count-in;
-      room = omega (arith, c.requires.1.clauses);
-      word = c.wide-count.ensures.0;
-    }
-    in
-    let declared-few : length (take c.args.s.symbols c.args.arities.now) ≤ 16 = omega (arith, c.requires.1.symbols, length-take c.args.s.symbols c.args.arities.now)
-    in
-    let slots-room : 32 ≤ length c.args.slots.now = omega arith
-    in
-    let ready = c.requires.1 in
-    let few = clause-few counted in
-    let slots = clause-slots _ _ _ (take c.args.s.symbols c.args.arities.now) _ _ _ _ counted c.read_slots-next.ensures c.if-next-eq0.false slots-room ready.constants declared-few in
-    (few, ready.atoms, omega (arith, ready.literals, ready.clauses), slots, ready.index)
+    let declared-few : length (take c.args.s.symbols c.args.arities.now) ≤ 16 = omega (arith, c.requires.symbols, length-take c.args.s.symbols c.args.arities.now) in
+    let ready = c.requires in
+    let slots = clause-slots _ c.args.s _ _ _ _ c.in_ok-count.ensures.asked (omega (arith, c.requires.clauses)) _ (rw words-from at c.in_ok-left.ensures) c.in_ok-count.ensures.fits.1 (omega arith) ready.constants declared-few in
+    (c.in_ok-count.ensures.fits.1, ready.atoms, omega (arith, ready.literals, ready.clauses, c.in_ok-count.ensures.fits.1), slots, ready.index)
 
 pub returns-then-atoms-gt-GOALS : goal.returns-then-atoms-gt-GOALS
+unfolding counted
 returns-then-atoms-gt-GOALS c =
-    let count-in : within 0 8 (number_of (get_or c.args.row.now 1 0)) ≡ true = sym c.in_range.ensures ∙ c.if-not-in_range.false
-    in
-    let counted : ClauseCounted c.args.n c.args.row.now c.args.s c.wide-count.result =
-    record {
-      fits = omega arith;
-      two = omega arith;
-      read = count-in;
-      room = omega (arith, c.requires.1.clauses);
-      word = c.wide-count.ensures.0;
-    }
-    in
-    let slots-room : 32 ≤ length c.args.slots.now = omega arith
-    in
-    clause-many _ _ _ (take c.args.s.symbols c.args.arities.now) _ _ _ _ counted c.read_slots-next.ensures c.if-next-eq0.false slots-room
-    c.if-next-n.false
+    clause-many _ c.args.s _ _ _ _ c.in_ok-count.ensures.asked (omega (arith, c.requires.clauses)) _ (rw words-from at c.in_ok-left.ensures) c.in_ok-count.ensures.fits.1 (omega arith)
+    (grind arith)
     _ _ _ _ _ _ _
     c.enter_clause-atoms.ensures
     _
     c.if-atoms-gt-GOALS.true
 
 pub returns : goal.returns
-unfolding more_clauses
+unfolding counted more_clauses
 returns c =
-    let count-in : within 0 8 (number_of (get_or c.args.row.now 1 0)) ≡ true = sym c.in_range.ensures ∙ c.if-not-in_range.false
-    in
-    let counted : ClauseCounted c.args.n c.args.row.now c.args.s c.wide-count.result =
-    record {
-      fits = omega arith;
-      two = omega arith;
-      read = count-in;
-      room = omega (arith, c.requires.1.clauses);
-      word = c.wide-count.ensures.0;
-    }
-    in
-    let slots-room : 32 ≤ length c.args.slots.now = omega arith
-    in
-    clause-read _ _ _ (take c.args.s.symbols c.args.arities.now) _ _ _ _ counted c.read_slots-next.ensures c.if-next-eq0.false slots-room
-    c.if-next-n.false
+    clause-read _ c.args.s _ _ _ _ c.in_ok-count.ensures.asked (omega (arith, c.requires.clauses)) _ (rw words-from at c.in_ok-left.ensures) c.in_ok-count.ensures.fits.1 (omega arith)
+    (grind arith)
     _ _ _ _ _ _ _
     c.enter_clause-atoms.ensures
     _

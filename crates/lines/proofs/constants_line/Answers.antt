@@ -1,20 +1,19 @@
 -- `lines::constants_line` meets its contract, return by return. Assumes nothing.
-use mathlib.Core.Path.{sym, ◌∙◌}
-use native.Mathlib.Omega.{arith}
+use Rattle.std.proofs.Common.{refl}
+use Rattle.rows.specs.Rows.{counted}
 use Rattle.lines.specs.LineReads.{more_constants}
-use Rattle.lines.proofs.CountLines.{constants-refused, constants-missing, constants-out, constants-over, constants-read}
+use Rattle.lines.proofs.CountColumns.{handed}
+use Rattle.lines.proofs.CountLines.{constants-refused, constants-uncounted, constants-over, constants-read}
 use Rattle.lines.proofs.constants_line.Goals as goal
 
-pub returns-then-n-lt2 : goal.returns-then-n-lt2
-returns-then-n-lt2 c = constants-refused _ (constants-missing _ _ c.if-n-lt2.true)
+pub returns-in_err-constants : goal.returns-in_err-constants
+unfolding counted
+returns-in_err-constants c = constants-refused _ _ (constants-uncounted _ c.in_err-constants.ensures.asked) (handed _ _ c.from_residual.ensures.1 refl)
 
-pub returns-then-not-in_range : goal.returns-then-not-in_range
-returns-then-not-in_range c = constants-refused _ (constants-out _ _ (omega arith) (omega arith) (sym c.in_range.ensures ∙ c.if-not-in_range.true))
-
-pub returns-then-n-gt2 : goal.returns-then-n-gt2
-returns-then-n-gt2 c = constants-refused _ (constants-over _ _ (omega arith) (omega arith) (sym c.in_range.ensures ∙ c.if-not-in_range.false) c.if-n-gt2.true)
+pub returns-then-line-gt2 : goal.returns-then-line-gt2
+unfolding counted
+returns-then-line-gt2 c = constants-refused _ _ (constants-over _ c.in_ok-constants.ensures.asked c.if-line-gt2.true) refl
 
 pub returns : goal.returns
-unfolding more_constants
-returns c =
-    constants-read _ _ (omega arith) (omega arith) (sym c.in_range.ensures ∙ c.if-not-in_range.false) c.if-n-gt2.false _ c.wide-constants.ensures.0 _
+unfolding counted more_constants
+returns c = constants-read _ c.in_ok-constants.ensures.asked c.if-line-gt2.false _

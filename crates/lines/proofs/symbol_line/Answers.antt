@@ -1,31 +1,23 @@
 -- `lines::symbol_line` meets its contract, return by return. Assumes nothing.
-use mathlib.Core.Path.{sym, ◌∙◌}
-use native.Mathlib.Omega.{arith}
-use Rattle.theory.specs.Limits.{within-between}
-use Rattle.encoding.specs.Signs.{number_of}
+use Rattle.std.proofs.Common.{arith, refl}
+use Rattle.rows.specs.Rows.{counted}
 use Rattle.lines.specs.LineReads.{more_symbols}
-use Rattle.lines.proofs.CountLines.{symbol-refused, arity-missing, arity-out, symbols-full, arity-over, symbol-read}
+use Rattle.lines.proofs.CountColumns.{handed}
+use Rattle.lines.proofs.CountLines.{symbol-refused, arity-uncounted, symbols-full, arity-over, arity-read}
 use Rattle.lines.proofs.symbol_line.Goals as goal
 
-pub returns-then-n-lt2 : goal.returns-then-n-lt2
-returns-then-n-lt2 c = symbol-refused _ _ _ (arity-missing _ _ _ c.if-n-lt2.true)
-
-pub returns-then-not-in_range : goal.returns-then-not-in_range
-returns-then-not-in_range c = symbol-refused _ _ _ (arity-out _ _ _ (omega arith) (omega arith) (sym c.in_range.ensures ∙ c.if-not-in_range.true))
+pub returns-in_err-arity : goal.returns-in_err-arity
+unfolding counted
+returns-in_err-arity c = symbol-refused _ _ _ _ (arity-uncounted _ _ c.in_err-arity.ensures.asked) (handed _ _ c.from_residual.ensures.1 refl)
 
 pub returns-then-symbols-eq-SYMBOLS : goal.returns-then-symbols-eq-SYMBOLS
-returns-then-symbols-eq-SYMBOLS c = symbol-refused _ _ _ (symbols-full _ _ _ (omega arith) (omega arith) (sym c.in_range.ensures ∙ c.if-not-in_range.false) c.if-symbols-eq-SYMBOLS.true)
+unfolding counted
+returns-then-symbols-eq-SYMBOLS c = symbol-refused _ _ _ _ (symbols-full _ _ c.in_ok-arity.ensures.asked c.if-symbols-eq-SYMBOLS.true) refl
 
-pub returns-then-n-gt2 : goal.returns-then-n-gt2
-returns-then-n-gt2 c =
-    symbol-refused _ _ _ (arity-over _ _ _ (omega arith) (omega arith) (sym c.in_range.ensures ∙ c.if-not-in_range.false) (omega arith) c.if-n-gt2.true)
-
-pub overflow_cast-arities : goal.overflow_cast-arities
-unfolding number_of
-overflow_cast-arities c =
-    omega (arith, within-between 0 3 _ (sym c.in_range.ensures ∙ c.if-not-in_range.false))
+pub returns-then-line-gt2 : goal.returns-then-line-gt2
+unfolding counted
+returns-then-line-gt2 c = symbol-refused _ _ _ _ (arity-over _ _ c.in_ok-arity.ensures.asked (omega arith) c.if-line-gt2.true) refl
 
 pub returns : goal.returns
-unfolding more_symbols
-returns c =
-    symbol-read _ _ _ (omega arith) (omega arith) (sym c.in_range.ensures ∙ c.if-not-in_range.false) (omega arith) c.if-n-gt2.false _ c.wide-arity.ensures.0 _
+unfolding counted more_symbols
+returns c = arity-read _ _ c.in_ok-arity.ensures.asked (omega arith) c.if-line-gt2.false _ _ refl

@@ -1,14 +1,17 @@
--- `rows::line_end` meets its contract: what is left of the line from a place on, added to the place, stays the same. Assumes nothing.
-use native.Mathlib.Omega.{arith}
-use Rattle.rows.proofs.RowLoops.{line-here, line_on, line-over}
-use borrow.Author.Rules.{rules}
+-- `rows::line_end` meets its contract: the first LF ends the line, or the sheet's end does. Assumes nothing.
+use Rattle.std.proofs.Common.{arith, ℕ, ◌≡◌, ◌<◌, length, drop, get_or, length-drop}
+use Rattle.std.proofs.lemmas.Grind.{common_steps}
+use Rattle.rows.proofs.RowLoops.{line_length-first, line_length-whole}
 use Rattle.rows.proofs.line_end.Goals as goal
 
-pub returns-then-sheet-at-eq10 : goal.returns-then-sheet-at-eq10
-returns-then-sheet-at-eq10 c = omega (arith, line-here c.args.sheet.now c.loop-at.at c.loop-at-test.true c.if-sheet-at-eq10.true)
+pub returns-in-Some : goal.returns-in-Some
+returns-in-Some c =
+    let here : get_or (drop c.args.from c.args.sheet.now) c.in-Some.at 0 ≡ 10 = grind (arith, common_steps) in
+    let inside : c.in-Some.at < length (drop c.args.from c.args.sheet.now) = grind (arith, common_steps) in
+    let before : (j : ℕ) → j < c.in-Some.at → get_or (drop c.args.from c.args.sheet.now) j 0 ≡ 10 → ⊥ = λ j l e. grind (arith, common_steps) in
+    omega (arith, line_length-first (drop c.args.from c.args.sheet.now) c.in-Some.at inside here before)
 
-pub loop-at-preserved : goal.loop-at-preserved
-loop-at-preserved c = (search rules, omega (arith, line_on c.args.sheet.now c.loop-at.at c.loop-at-test.true c.if-sheet-at-eq10.false))
-
-pub returns : goal.returns
-returns c = omega (arith, line-over c.args.sheet.now c.loop-at.at c.loop-at-test.false)
+pub returns-in-None : goal.returns-in-None
+returns-in-None c =
+    let none : (j : ℕ) → j < length (drop c.args.from c.args.sheet.now) → get_or (drop c.args.from c.args.sheet.now) j 0 ≡ 10 → ⊥ = λ j l e. grind (arith, common_steps) in
+    omega (arith, line_length-whole (drop c.args.from c.args.sheet.now) none, length-drop c.args.from c.args.sheet.now)

@@ -1,10 +1,6 @@
 -- `rows::read_row` meets its contract: what the line comes to stays the same while numbers take the place of its filled columns. Assumes nothing.
-use Prim.Native.Nat.{◌-◌}
 use Rattle.rows.proofs.RowLoops.{RowUpTo}
 use Rattle.rows.proofs.read_row.Given as goal
 
 abbrev pub invariant-loop-i : goal.invariant-loop-i
 invariant-loop-i l = RowUpTo l.sheet l.from l.count l.i l.filled l.row
-
-abbrev pub decreases-loop-i : goal.decreases-loop-i
-decreases-loop-i l = l.count - l.i

@@ -1,10 +1,10 @@
 -- `rows::row_kind` meets its contract: the first number tells, if there is one. Assumes nothing.
-use mathlib.Core.Path.{◌∙◌}
-use Rattle.rows.proofs.RowTests.{no_kind, first-number}
+use Rattle.std.proofs.Common.{◌∙◌}
+use Rattle.rows.proofs.RowTests.{no_kind, first-kind}
 use Rattle.rows.proofs.row_kind.Goals as goal
 
-pub returns-then-filled-gt0 : goal.returns-then-filled-gt0
-returns-then-filled-gt0 c = c.kind_here.ensures ∙ first-number _ _ _ c.if-filled-gt0.true
+pub returns-in-empty : goal.returns-in-empty
+returns-in-empty c = no_kind _ _ c.in-empty.len_below
 
-pub returns : goal.returns
-returns c = no_kind _ _ _ c.if-filled-gt0.false
+pub returns-in-len1-up : goal.returns-in-len1-up
+returns-in-len1-up c = c.kind_here.ensures ∙ first-kind _ _ c.in-len1-up.len_at_least

@@ -1,13 +1,16 @@
--- `search::search` meets its contract: the arrays as they are read stand for the start of the search, and the counters are those of the goal
+-- `search::search` meets its contract: the machine as it is lent stands for the start of the search, and the counters are those of the goal
 -- clauses. Assumes nothing.
-use native.Mathlib.Omega.{arith}
+use Rattle.std.proofs.Common.{arith}
 use Rattle.counters.specs.CounterLaws.{counters-none}
+use Rattle.rules.specs.RuleLaws.{rule-keeps}
 use Rattle.machine.specs.StepNeeds.{units-fit, rules-and-index}
 use Rattle.machine.specs.Loading.{start_run, loaded-running, loaded-stepping, loaded-ends}
 use Rattle.search.proofs.search.Goals as goal
 
 pub users_of-users-requires : goal.users_of-users-requires
-users_of-users-requires c = (rules-and-index _ _ _ _ _ (loaded-running c.requires.0 _ c.args.budget _ _ c.requires.1 (omega arith))).0
+users_of-users-requires c =
+    let fits = (rules-and-index _ _ _ _ _ (loaded-running c.requires.0 _ c.args.budget _ _ c.requires.1 (omega arith))).0 in
+    λ r l. rule-keeps _ _ _ r fits l
 
 pub enter_all-requires : goal.enter_all-requires
 unfolding start_run

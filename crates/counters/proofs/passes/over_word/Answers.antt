@@ -1,15 +1,10 @@
 -- `passes::over_word` meets its contract, bit by bit from the lowest. Assumes nothing.
-use native.Mathlib.Omega.{arith}
+use Rattle.std.proofs.Common.{arith}
 use Rattle.counters.specs.Passes.{word-start, word_end, word_in, word_fits, word-turn}
 use Rattle.counters.proofs.passes.over_word.Goals as goal
 
 pub loop-m-init : goal.loop-m-init
 loop-m-init c = word-start c.requires.1
-
-pub bounds-counts-c : goal.bounds-counts-c
-bounds-counts-c c =
-    let facts = word_in _ c.loop-m.invariant c.loop-m-test.true c.requires.0 c.requires.2 c.low_zeros-t.ensures.0 in
-    omega arith
 
 pub overflow_add-n : goal.overflow_add-n
 overflow_add-n c =
@@ -21,16 +16,6 @@ overflow_sub-n c =
     let facts = word_fits _ c.loop-m.invariant c.loop-m-test.true c.requires.0 c.requires.2 c.low_zeros-t.ensures.0 c.requires.3 in
     omega arith
 
-pub bounds-counts-c-in-loop-m : goal.bounds-counts-c-in-loop-m
-bounds-counts-c-in-loop-m c =
-    let facts = word_in _ c.loop-m.invariant c.loop-m-test.true c.requires.0 c.requires.2 c.low_zeros-t.ensures.0 in
-    omega arith
-
-pub overflow_shl-bit : goal.overflow_shl-bit
-overflow_shl-bit c =
-    let facts = word_in _ c.loop-m.invariant c.loop-m-test.true c.requires.0 c.requires.2 c.low_zeros-t.ensures.0 in
-    omega arith
-
 pub overflow_add-low : goal.overflow_add-low
 overflow_add-low c =
     let facts = word_in _ c.loop-m.invariant c.loop-m-test.true c.requires.0 c.requires.2 c.low_zeros-t.ensures.0 in
@@ -38,11 +23,6 @@ overflow_add-low c =
 
 pub overflow_sub-m : goal.overflow_sub-m
 overflow_sub-m c =
-    let facts = word_in _ c.loop-m.invariant c.loop-m-test.true c.requires.0 c.requires.2 c.low_zeros-t.ensures.0 in
-    omega arith
-
-pub loop-m-smaller : goal.loop-m-smaller
-loop-m-smaller c =
     let facts = word_in _ c.loop-m.invariant c.loop-m-test.true c.requires.0 c.requires.2 c.low_zeros-t.ensures.0 in
     omega arith
 

@@ -1,23 +1,18 @@
--- `slots::read_slots` meets its contract: the line is the front of the row, and the arities the front of the table. Assumes nothing.
-use mathlib.Core.Path.{sym}
-use native.Mathlib.Omega.{arith}
-use lib.Seq.{length-take-le}
-use Rattle.encoding.specs.Signs.{numbers}
+-- `slots::read_slots` meets its contract: the patterns found so far stand in the first slots. Assumes nothing.
+use Rattle.std.proofs.Common.{refl}
+use Rattle.literals.proofs.Literals.{literals_from, fill_start, fill-refused, fill-turn, fill_end}
 use Rattle.literals.proofs.slots.read_slots.Goals as goal
 
-pub slice_bounds-declared-end : goal.slice_bounds-declared-end
-slice_bounds-declared-end c = sym (length-take-le _ _ (omega arith))
+pub loop-i-init : goal.loop-i-init
+loop-i-init c = fill_start _ _ _ _ _ _
 
-pub slice_bounds-line-end : goal.slice_bounds-line-end
-slice_bounds-line-end c = sym (length-take-le _ _ (omega arith))
+pub returns-in_err-left : goal.returns-in_err-left
+unfolding literals_from
+returns-in_err-left c = fill-refused _ _ _ _ _ _ _ _ _ c.loop-i.invariant c.loop-i-test.true _ _ c.in_err-left.ensures _ c.from_residual.ensures.1
 
-pub fill_slots-requires : goal.fill_slots-requires
-fill_slots-requires c =
-    let a = c.args in
-    (c.requires.1, omega (arith, length-take-le a.n a.row.now (omega arith)), c.requires.4)
+pub loop-i-preserved : goal.loop-i-preserved
+loop-i-preserved c = fill-turn _ _ _ _ _ _ _ _ _ c.loop-i.invariant c.loop-i-test.true _ _ c.in_ok-left.ensures
 
 pub returns : goal.returns
-unfolding numbers
-returns c =
-    let a = c.args in
-    rw (length-take-le a.n a.row.now (omega arith)) at c.fill_slots.ensures
+unfolding literals_from
+returns c = fill_end _ _ _ _ _ _ _ _ _ c.loop-i.invariant c.loop-i-test.false c.loop-i.left refl

@@ -1,28 +1,29 @@
 -- `slots::read_terms` meets its contract: the terms found so far stand in the slot, over whatever stood there. Assumes nothing.
-use Rattle.literals.proofs.Terms.{three-zeros, terms-start, terms-short, terms-refused, terms-turn, terms-end}
-use borrow.Author.Rules.{rules}
+use Rattle.std.proofs.Common.{refl}
+use Rattle.literals.proofs.Terms.{rest-words, three-zeros, terms-start, terms-short, terms-refused, terms-turn, terms-end, terms_from}
 use Rattle.literals.proofs.slots.read_terms.Goals as goal
 
 pub loop-j-init : goal.loop-j-init
-loop-j-init c = (search rules, λ before e. terms-start _ _ _ _ _ _ before _ e)
+loop-j-init c = λ before e. terms-start _ _ _ _ _ before _ e
 
-pub returns-then-line-here : goal.returns-then-line-here
-returns-then-line-here c =
+pub returns-in_default : goal.returns-in_default
+unfolding terms_from
+returns-in_default c =
     let entry = c.args.slots.now in
-    terms-short _ _ _ _ _ _ entry _ _ (c.loop-j.invariant.1 entry (three-zeros entry _)) c.loop-j-test.true c.if-line-here.true
+    terms-short _ _ _ _ _ entry _ _ _ (c.loop-j.invariant entry (three-zeros entry _)) c.loop-j-test.true c.in_default.len_below
 
-pub returns-then-t-eq0 : goal.returns-then-t-eq0
-returns-then-t-eq0 c =
+pub returns-in_err-slots : goal.returns-in_err-slots
+unfolding terms_from
+returns-in_err-slots c =
     let entry = c.args.slots.now in
-    terms-refused _ _ _ _ _ _ entry _ _ (c.loop-j.invariant.1 entry (three-zeros entry _)) _ c.loop-j-test.true c.if-line-here.false c.term_word-t.ensures c.if-t-eq0.true
+    terms-refused _ _ _ _ _ entry _ _ _ (c.loop-j.invariant entry (three-zeros entry _)) c.loop-j-test.true c.in-len1-up.len_at_least c.in_err-slots.ensures _ c.from_residual.ensures.1
 
 pub loop-j-preserved : goal.loop-j-preserved
-loop-j-preserved c = (
-  search rules,
-  λ before e. terms-turn _ _ _ _ _ _ before _ _ (c.loop-j.invariant.1 before e) _ c.loop-j-test.true c.if-line-here.false c.term_word-t.ensures c.if-t-eq0.false c.requires.1,
-)
+loop-j-preserved c =
+    λ before e. rw rest-words (terms-turn _ _ _ _ _ before _ _ _ (c.loop-j.invariant before e) c.loop-j-test.true c.in-len1-up.len_at_least c.in_ok-slots.ensures c.requires.0)
 
 pub returns : goal.returns
+unfolding terms_from
 returns c =
     let entry = c.args.slots.now in
-    terms-end _ _ _ _ _ _ entry _ _ (c.loop-j.invariant.1 entry (three-zeros entry _)) c.loop-j-test.false
+    terms-end _ _ _ _ _ entry _ _ _ (c.loop-j.invariant entry (three-zeros entry _)) c.loop-j-test.false c.loop-j.left refl

@@ -1,43 +1,39 @@
 -- `slots::term_word` meets its contract, by the law of each way through its tests. Assumes nothing.
-use mathlib.Core.Path.{◌≡◌}
-use Prim.Native.Nat.{◌%◌}
-use lib.Dec.{eqb}
-use Rattle.literals.proofs.Arguments.{read-no-size, read-high-variable, read-low-variable, read-negative, rule-sign, clause-sign, read-high-constant, read-low-constant}
+use Rattle.std.proofs.Common.{arith, ◌≡◌, ◌%◌, ne_eqb}
+use Rattle.std.proofs.lemmas.Bool.{eqb-false}
+use Rattle.theory.specs.Tests.{apart}
+use Rattle.theory.specs.WordLaws.{beq-refl, beq-eq}
+use Rattle.encoding.specs.Signs.{number_of}
+use Rattle.literals.proofs.Arguments.{no_size, low-variable, low-constant, out_of_range}
 use Rattle.literals.proofs.slots.term_word.Goals as goal
-use Rattle.literals.proofs.slots.term_word.Goals.{then-rule+else-w-eq0, else-rule+else-w-eq1}
+use Rattle.literals.proofs.slots.term_word.Goals.{else-rule-via-then-rule+then-not-negative+else-size-le-VARIABLES, else-rule-via-then-rule+else-not-negative, else-rule-via-else-rule, else-rule-negative-via-then-rule-negative+else-size-constants, else-rule-negative-via-else-rule-negative}
 
 pub returns-then-size-eq0 : goal.returns-then-size-eq0
-returns-then-size-eq0 c = read-no-size _ _ _ _ c.wide-w.ensures.0 c.if-size-eq0.true
+unfolding number_of
+returns-then-size-eq0 c = no_size _ _ _ _ (omega (arith, c.from-size.ensures))
 
-pub returns-then-size-gt-VARIABLES : goal.returns-then-size-gt-VARIABLES
-returns-then-size-gt-VARIABLES c =
-    read-high-variable _ _ _ _ c.wide-w.ensures.0
-    c.if-rule.true c.if-w-eq0.true c.if-size-gt-VARIABLES.true
+pub returns-then-size-le-VARIABLES : goal.returns-then-size-le-VARIABLES
+unfolding number_of
+returns-then-size-le-VARIABLES c =
+    rw c.from-size.ensures (low-variable _ _ _ _ c.if-rule.true (ne_eqb (c.args.word % 2) 1 c.if-not-negative.true) (omega (arith, c.from-size.ensures)) (omega (arith, c.from-size.ensures)))
 
-pub returns-then-w-eq0 : goal.returns-then-w-eq0
-returns-then-w-eq0 c =
-    read-low-variable _ _ _ _ c.wide-w.ensures.0
-    c.if-rule.true c.if-w-eq0.true c.if-size-eq0.false c.if-size-gt-VARIABLES.false
-
-pub returns-then-w-eq1 : goal.returns-then-w-eq1
-returns-then-w-eq1 c = read-negative _ _ _ _ c.wide-w.ensures.0 c.if-rule.false c.if-w-eq1.true
-
-pub returns-then-constants-size : goal.returns-then-constants-size
-returns-then-constants-size c =
-    read-high-constant _ _ _ _ c.wide-w.ensures.0
-    (let sign : eqb (c.args.word % 2) 1 ≡ c.args.rule =
-    elim c.if-rule.branch [
-      | then-rule+else-w-eq0 way ↦ rule-sign _ 0 _ _ c.wide-w.ensures.0 way.if-rule.true way.if-w-eq0.false
-      | else-rule+else-w-eq1 way ↦ clause-sign _ 0 _ _ c.wide-w.ensures.0 way.if-rule.false way.if-w-eq1.false
-    ]
-    in sign) c.if-size-eq0.false c.if-constants-size.true
+pub returns-then-size-constants : goal.returns-then-size-constants
+unfolding number_of
+returns-then-size-constants c =
+    rw c.from-size.ensures (low-constant _ _ _ _ (beq-eq _ _ c.if-rule-negative.true) (omega (arith, c.from-size.ensures)) (omega (arith, c.from-size.ensures)))
 
 pub returns : goal.returns
+unfolding number_of
 returns c =
-    read-low-constant _ _ _ _ c.wide-w.ensures.0
-    (let sign : eqb (c.args.word % 2) 1 ≡ c.args.rule =
-    elim c.if-rule.branch [
-      | then-rule+else-w-eq0 way ↦ rule-sign _ 0 _ _ c.wide-w.ensures.0 way.if-rule.true way.if-w-eq0.false
-      | else-rule+else-w-eq1 way ↦ clause-sign _ 0 _ _ c.wide-w.ensures.0 way.if-rule.false way.if-w-eq1.false
-    ]
-    in sign) c.if-size-eq0.false c.if-constants-size.false
+    out_of_range _ _ _ _ (omega (arith, c.from-size.ensures))
+    (λ r n.
+    let odd : c.args.word % 2 ≡ 1 → ⊥ = eqb-false (c.args.word % 2) 1 n in
+    elim c.else-rule.branch [
+      | else-rule-via-then-rule+then-not-negative+else-size-le-VARIABLES w ↦ omega (arith, c.from-size.ensures, w.if-size-le-VARIABLES.false)
+      | else-rule-via-then-rule+else-not-negative w ↦ absurd (odd w.if-not-negative.false)
+      | else-rule-via-else-rule w ↦ apart (cc (w.if-rule.false))
+    ])
+    (λ e. elim c.else-rule-negative.branch [
+      | else-rule-negative-via-then-rule-negative+else-size-constants w ↦ omega (arith, c.from-size.ensures, w.if-size-constants.false)
+      | else-rule-negative-via-else-rule-negative w ↦ apart (let same = beq-refl c.args.rule in cc (w.if-rule-negative.false))
+    ])
