@@ -40,7 +40,12 @@ pub extern "C" fn thunyaworm_export(
 
 // What was read: the values of the answer at the front of the places, and how many there are; and the arrays, but for a refusal.
 #[tactic(auto, unfolding(cnf_reader::specs::CnfArrays::cnf_values, crate::specs::Handed::unless_refused))]
-fn put_read(read: Result<Cnf, Question>, starts: &mut [u16], literals: &mut [u16], places: &mut [u64]) -> usize
+fn put_read(
+    read: Result<Cnf, Question>,
+    starts: &mut [u16],
+    literals: &mut [u16],
+    places: &mut [u64],
+) -> usize
     requires starts { 577 ≤ length starts.old }
     requires literals { 4608 ≤ length literals.old }
     requires places { 3 ≤ length places.old }
@@ -55,10 +60,7 @@ fn put_read(read: Result<Cnf, Question>, starts: &mut [u16], literals: &mut [u16
         Ok(cnf) => {
             put(starts, &cnf.starts);
             put(literals, &cnf.literals);
-            put(
-                places,
-                &[0, u64::from(cnf.atoms), u64::from(cnf.clauses)],
-            )
+            put(places, &[0, u64::from(cnf.atoms), u64::from(cnf.clauses)])
         }
     }
 }

@@ -74,8 +74,7 @@ pub extern "C" fn thunyaworm_listing(sheet: &[u8], budget: u32, room: &mut [u8])
     ensures count { result ≡ length (listed_part sheet.now budget room.old) }
     ensures room { room.new ≡ room_after sheet.now budget room.old }
 {
-    let listed = solver::list(sheet, budget, room);
-    listed
+    solver::list(sheet, budget, room)
 }
 
 // What the program prints for a sheet, the listing or the line of a refusal: how many bytes at the front of the room hold it. With a room
@@ -85,6 +84,5 @@ pub extern "C" fn thunyaworm_print(sheet: &[u8], budget: u32, room: &mut [u8]) -
     ensures count { result ≡ length (printed_part sheet.now budget room.old) }
     ensures room { room.new ≡ written (printed_part sheet.now budget room.old) room.old }
 {
-    let printed = solver::print(sheet, budget, room);
-    printed
+    solver::print(sheet, budget, room)
 }
