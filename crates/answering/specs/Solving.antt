@@ -1,19 +1,23 @@
--- What a call hands back and leaves in its rooms, by what it comes to and the text that is wanted of it. Assumes nothing.
-use Rattle.std.specs.Prelude.{ℕ, ◌≡◌, Bool, true, false, List, [], length}
-use Rattle.definitions.specs.Questions.{Reading}
-use Rattle.definitions.specs.Call.{Result, answer_of, listing_of, written}
-use Rattle.definitions.specs.Export.{export_of}
+-- What a call hands back and leaves in a room, by what it comes to and the text that is made of it. Assumes nothing.
+use Rattle.std.specs.Prelude.{ℕ, ◌≡◌, List, length, Result as Returned, Ok, Err}
+use Rattle.definitions.specs.Call.{Result, answer_of, written}
+use Rattle.definitions.specs.declared.Refusal.{Refusal}
+use Rattle.definitions.specs.declared.Answer.{Answer}
+use Rattle.definitions.specs.declared.Answer.TheVariants.{Refused, Answered}
 use Rattle.answering.specs.declared.Solved.{Solved}
 
--- the clauses' text, or none
-unfoldable pub text_of : Bool → Reading → Result → List ℕ
-text_of true reading result = export_of reading result
-text_of false reading result = []
+-- the answer
+abbrev pub answer_in : Returned Solved Refusal → Answer
+answer_in (Ok solved) = Answered solved.counts
+answer_in (Err refusal) = Refused refusal
 
--- the answer, the lengths of listing and text, and both rooms with these at their fronts
-pub record SolvedAs (result : Result) (text room export : List ℕ) (r : Solved) (room_last export_last : List ℕ) : Type 0 where
-  pub answer : r.answer ≡ answer_of result
-  pub size : r.length ≡ length (listing_of result)
-  pub stored : room_last ≡ written (listing_of result) room
-  pub size_text : r.text ≡ length text
-  pub stored_text : export_last ≡ written text export
+-- how many bytes were put into the room
+abbrev pub length_in : Returned Solved Refusal → ℕ
+length_in (Ok solved) = solved.length
+length_in (Err refusal) = 0
+
+-- the answer, and the text with its length at the front of the room
+pub record SolvedAs (came : Result) (text room : List ℕ) (r : Returned Solved Refusal) (room_last : List ℕ) : Type 0 where
+  pub answer : answer_in r ≡ answer_of came
+  pub size : length_in r ≡ length text
+  pub stored : room_last ≡ written text room

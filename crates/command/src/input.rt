@@ -10,6 +10,7 @@ pub fn read_full<'a, R: Read>(input: &mut R, buffer: &'a mut [u8]) -> io::Result
     ensures front { IfOk result (λ read. Consumes (R.remaining input.old) (R.remaining input.new) read.now) }
     ensures whole { IfOk result (λ read. length read.now < length buffer.old → IsAtEnd (R.remaining input.new)) }
 {
+    // A read brings any number of bytes, so no range counts them.
     let mut count: usize = 0;
     while count < buffer.len() {
         let more = input.read(&mut buffer[count..])?;

@@ -1,4 +1,4 @@
-pub mod Answers
+pub mod Asked
 pub mod Lists
 pub mod Bounds
 pub mod Words

@@ -5,7 +5,7 @@
 
 ghost use Rattle.std.specs.Prelude.{◌≡◌};
 ghost use Rattle.definitions.specs.Numbered.{question_number};
-ghost use Rattle.definitions.specs.Answers.{asked_of_call, answer_from};
+ghost use Rattle.definitions.specs.Asked.{asked_of_call};
 
 // The questions by their numbers: 1 and 15 are asked of what a call is lent, 2 and 3 of a sheet, 4 to 14 of each of its lines, 21 and 22 of
 // a text in DIMACS CNF.
@@ -80,17 +80,6 @@ pub struct Counts {
 pub enum Answer {
     Refused(Refusal),
     Answered(Counts),
-}
-
-impl From<Result<Counts, Refusal>> for Answer {
-    ghost from_gives = { λ ended answer. answer ≡ answer_from ended };
-
-    fn from(ended: Result<Counts, Refusal>) -> Answer {
-        match ended {
-            Ok(counts) => Answer::Answered(counts),
-            Err(refusal) => Answer::Refused(refusal),
-        }
-    }
 }
 
 // What an export hands back: the answer, and how many bytes at the front of its room hold the text.

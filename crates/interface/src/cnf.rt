@@ -1,5 +1,5 @@
 // The export call and the reader of DIMACS CNF, for programs in C and Rust.
-ghost use Rattle.std.specs.Prelude.{◌≤◌, ◌≡◌, [], length};
+ghost use Rattle.std.specs.Prelude.{◌≤◌, ◌≡◌, [], IfOk, length};
 ghost use Rattle.std.proofs.lemmas.List.Edits.{sets};
 ghost use Rattle.definitions.specs.Call.{values as values_of};
 ghost use Rattle.definitions.specs.Dimacs.{read_cnf};
@@ -7,8 +7,9 @@ ghost use Rattle.definitions.specs.Export.{export_call, export_text, room_after_
 ghost use Rattle.cnf_reader.specs.CnfArrays.{cnf_read, cnf_values};
 ghost use Rattle.interface.specs.Handed.{lent_or, five_places, cnf_lent, unless_refused};
 
-use crate::{PLACES, put_values};
-use cnf_reader::{CnfAnswer, CnfRead};
+use crate::{PLACES, put, put_values};
+use cnf_reader::Cnf;
+use definitions::Question;
 
 // The most values that the reader puts into the places.
 pub const CNF_PLACES: usize = 3;
@@ -33,47 +34,33 @@ pub extern "C" fn thunyaworm_export(
         return 0;
     }
     let exported = solver::export(sheet, budget, room, cnf);
-    let answer = exported.answer;
-    let _values = put_values(places, answer);
+    put_values(places, exported.answer);
     exported.length
-}
-
-// Words at the front of a slice.
-fn put_words(to: &mut [u16], words: &[u16])
-    requires { length words.now ≤ length to.old }
-    ensures { to.new ≡ sets to.old 0 words.now }
-{
-    to[..words.len()].copy_from_slice(words);
 }
 
 // What was read: the values of the answer at the front of the places, and how many there are; and the arrays, but for a refusal.
 #[tactic(auto, unfolding(cnf_reader::specs::CnfArrays::cnf_values, crate::specs::Handed::unless_refused))]
-fn put_read(read: CnfRead, starts: &mut [u16], literals: &mut [u16], places: &mut [u64]) -> usize
+fn put_read(
+    read: Result<Cnf, Question>,
+    starts: &mut [u16],
+    literals: &mut [u16],
+    places: &mut [u64],
+) -> usize
     requires starts { 577 ≤ length starts.old }
     requires literals { 4608 ≤ length literals.old }
     requires places { 3 ≤ length places.old }
-    requires read_starts { length read.starts ≡ 577 }
-    requires read_literals { length read.literals ≡ 4608 }
-    ensures count { result ≡ length (cnf_values read.answer) }
-    ensures places { places.new ≡ sets places.old 0 (cnf_values read.answer) }
-    ensures starts { starts.new ≡ sets starts.old 0 (unless_refused read.answer read.starts) }
-    ensures literals { literals.new ≡ sets literals.old 0 (unless_refused read.answer read.literals) }
+    requires lengths { IfOk read (λ cnf. (length cnf.starts ≡ 577) × (length cnf.literals ≡ 4608)) }
+    ensures count { result ≡ length (cnf_values read) }
+    ensures places { places.new ≡ sets places.old 0 (cnf_values read) }
+    ensures starts { starts.new ≡ sets starts.old 0 (unless_refused (λ cnf. cnf.starts) read) }
+    ensures literals { literals.new ≡ sets literals.old 0 (unless_refused (λ cnf. cnf.literals) read) }
 {
-    let answer = read.answer;
-    match answer {
-        CnfAnswer::Refused(number) => {
-            places[0] = number as u64;
-            1
-        }
-        CnfAnswer::Read { atoms, clauses } => {
-            let first = read.starts;
-            put_words(starts, &first);
-            let words = read.literals;
-            put_words(literals, &words);
-            places[0] = 0;
-            places[1] = atoms as u64;
-            places[2] = clauses as u64;
-            3
+    match read {
+        Err(question) => put(places, &[u64::from(u8::from(question))]),
+        Ok(cnf) => {
+            put(starts, &cnf.starts);
+            put(literals, &cnf.literals);
+            put(places, &[0, u64::from(cnf.atoms), u64::from(cnf.clauses)])
         }
     }
 }
@@ -88,12 +75,12 @@ pub extern "C" fn thunyaworm_read_cnf(
     literals: &mut [u16],
     places: &mut [u64],
 ) -> usize
-    ensures count { result ≡ length (lent_or (cnf_lent starts.old literals.old places.old) (cnf_values (cnf_read (read_cnf text.now)).answer) []) }
-    ensures places { places.new ≡ sets places.old 0 (lent_or (cnf_lent starts.old literals.old places.old) (cnf_values (cnf_read (read_cnf text.now)).answer) []) }
+    ensures count { result ≡ length (lent_or (cnf_lent starts.old literals.old places.old) (cnf_values (cnf_read (read_cnf text.now))) []) }
+    ensures places { places.new ≡ sets places.old 0 (lent_or (cnf_lent starts.old literals.old places.old) (cnf_values (cnf_read (read_cnf text.now))) []) }
     ensures starts { starts.new ≡ sets starts.old 0 (lent_or (cnf_lent starts.old literals.old places.old)
-        (unless_refused (cnf_read (read_cnf text.now)).answer (cnf_read (read_cnf text.now)).starts) []) }
+        (unless_refused (λ cnf. cnf.starts) (cnf_read (read_cnf text.now))) []) }
     ensures literals { literals.new ≡ sets literals.old 0 (lent_or (cnf_lent starts.old literals.old places.old)
-        (unless_refused (cnf_read (read_cnf text.now)).answer (cnf_read (read_cnf text.now)).literals) []) }
+        (unless_refused (λ cnf. cnf.literals) (cnf_read (read_cnf text.now))) []) }
 {
     if starts.len() < cnf_reader::STARTS {
         return 0;
@@ -104,6 +91,5 @@ pub extern "C" fn thunyaworm_read_cnf(
     if places.len() < CNF_PLACES {
         return 0;
     }
-    let read = cnf_reader::read_cnf(text);
-    put_read(read, starts, literals, places)
+    put_read(cnf_reader::read_cnf(text), starts, literals, places)
 }

@@ -13,6 +13,16 @@ use definitions::Answer;
 // The most values that a call on a sheet puts into the places.
 pub const PLACES: usize = 5;
 
+// Words at the front of a slice: how many there are.
+fn put<T: Copy>(to: &mut [T], words: &[T]) -> usize
+    requires { length words.now ≤ length to.old }
+    ensures count { result ≡ length words.now }
+    ensures words { to.new ≡ sets to.old 0 words.now }
+{
+    to[..words.len()].copy_from_slice(words);
+    words.len()
+}
+
 // The values of an answer at the front of the places: how many there are.
 #[tactic(auto, unfolding(definitions::specs::Call::values))]
 fn put_values(places: &mut [u64], answer: Answer) -> usize
@@ -21,21 +31,20 @@ fn put_values(places: &mut [u64], answer: Answer) -> usize
     ensures places { places.new ≡ sets places.old 0 (values_of answer) }
 {
     match answer {
-        Answer::Refused(refusal) => {
-            places[0] = refusal.number as u64;
-            places[1] = refusal.line as u64;
-            2
-        }
-        Answer::Answered(counts) => {
-            let verdict = counts.verdict;
-            let answered = listing::number(verdict);
-            places[0] = answered as u64;
-            places[1] = counts.atoms as u64;
-            places[2] = counts.logged as u64;
-            places[3] = counts.decisions as u64;
-            places[4] = counts.conflicts;
-            5
-        }
+        Answer::Refused(refusal) => put(
+            places,
+            &[u64::from(refusal.number), u64::from(refusal.line)],
+        ),
+        Answer::Answered(counts) => put(
+            places,
+            &[
+                u64::from(listing::number(counts.verdict)),
+                u64::from(counts.atoms),
+                u64::from(counts.logged),
+                u64::from(counts.decisions),
+                counts.conflicts,
+            ],
+        ),
     }
 }
 
@@ -56,8 +65,7 @@ pub extern "C" fn thunyaworm_solve(
     if places.len() < PLACES {
         return 0;
     }
-    let answer = solver::solve(sheet, budget, room);
-    put_values(places, answer)
+    put_values(places, solver::solve(sheet, budget, room))
 }
 
 // The second call: how many bytes at the front of the room hold the listing.
@@ -66,8 +74,7 @@ pub extern "C" fn thunyaworm_listing(sheet: &[u8], budget: u32, room: &mut [u8])
     ensures count { result ≡ length (listed_part sheet.now budget room.old) }
     ensures room { room.new ≡ room_after sheet.now budget room.old }
 {
-    let listed = solver::list(sheet, budget, room);
-    listed
+    solver::list(sheet, budget, room)
 }
 
 // What the program prints for a sheet, the listing or the line of a refusal: how many bytes at the front of the room hold it. With a room
@@ -77,6 +84,5 @@ pub extern "C" fn thunyaworm_print(sheet: &[u8], budget: u32, room: &mut [u8]) -
     ensures count { result ≡ length (printed_part sheet.now budget room.old) }
     ensures room { room.new ≡ written (printed_part sheet.now budget room.old) room.old }
 {
-    let printed = solver::print(sheet, budget, room);
-    printed
+    solver::print(sheet, budget, room)
 }

@@ -1,8 +1,9 @@
--- The number of the first question about what is lent that fails. Assumes nothing.
-use Rattle.std.specs.Prelude.{ℕ, ◌<◌, ◌≡◌}
+-- The number of the first question about what is lent that fails, if one does. Assumes nothing.
+use Rattle.std.specs.Prelude.{ℕ, Result, Ok, Err}
 use Rattle.std.proofs.Math.Option.{Option, none, some}
+use Rattle.definitions.specs.Numbered.{question_number}
+use Rattle.definitions.specs.declared.Question.{Question}
 
--- a question's number, and 0 for none
-abbrev pub ShortIs : Option ℕ → ℕ → Type 0
-ShortIs none r = r ≡ 0
-ShortIs (some q) r = (r ≡ q) × (0 < q)
+abbrev pub short_of : Result (Unit {0}) Question → Option ℕ
+short_of (Ok u) = none
+short_of (Err question) = some (question_number question)

@@ -1,56 +1,54 @@
 -- The questions about what is lent, and then the sheet's: a refusal writes nothing, and where enough is lent the call's result is the
 -- sheet's. What is written lies in its room. Assumes nothing.
-use Rattle.std.specs.Prelude.{ℕ, ◌≤◌, ◌≡◌, Bool, leb, length, take, drop}
-use Rattle.std.proofs.Math.Path.{refl}
-use Rattle.std.proofs.Common.{ap, arith, length-append, leb-true, leb-false}
+use Rattle.std.specs.Prelude.{ℕ, ◌≤◌, ◌<◌, ◌≡◌, refl, leb, List, [], length, take, drop, Result as Returned, Err}
+use Rattle.std.proofs.Common.{ap, sym, ◌∙◌, arith, length-append, leb-true, leb-false}
 use Rattle.std.proofs.Math.Option.{Option, none, some}
-use Rattle.std.proofs.Math.Bool.{true, false}
-use mathlib.Core.List.{List, []}
 use Rattle.std.proofs.Math.Seq.{take-append_seam}
 use Rattle.definitions.specs.Bounds.{room_bytes, export_bytes}
 use Rattle.definitions.specs.Questions.{read}
-use Rattle.definitions.specs.Call.{answered, Lending, lendings, first_short, after_lending, result, written}
-use Rattle.definitions.specs.Export.{export_lendings, export_result, export_of, export_call, export_text, room_after_export, export_after}
-use Rattle.definitions.specs.declared.Answer.{Answer}
-use Rattle.definitions.specs.declared.Answer.TheVariants.{Refused}
-use Rattle.theory.specs.Tests.{by-test}
+use Rattle.definitions.specs.Call.{Result, refusal, answered, Lending, lendings, first_short, after_lending, result, listing_of, written}
+use Rattle.definitions.specs.Export.{export_lendings, export_result, export_of}
+use Rattle.definitions.specs.Numbered.{question_number}
+use Rattle.definitions.specs.Asked.{asked_of_call}
+use Rattle.definitions.specs.declared.Question.{Question}
+use Rattle.definitions.specs.declared.Refusal.{Refusal}
+use Rattle.theory.specs.Tests.{by-test, apart}
 use Rattle.theory.specs.CallLaws.{short-room, enough-room, large-room}
-use Rattle.theory.specs.ExportLaws.{short-listing, short-export, enough-lent}
-use Rattle.answering.specs.Solving.{text_of, SolvedAs}
-use Rattle.answering.specs.SolvingLaws.{no_text_lem, refusal-written}
+use Rattle.theory.specs.ExportLaws.{refused-text, short-listing, short-export, enough-rooms, enough-lent}
+use Rattle.answering.specs.Solving.{SolvedAs}
+use Rattle.answering.specs.SolvingLaws.{refusal-written}
 use Rattle.answering.specs.declared.Solved.{Solved}
-use Rattle.solver.specs.Lent.{ShortIs}
 
--- a question about what is lent is answered no: it ends the call, and nothing is written
-short-lent : (sheet : List ℕ) (budget : ℕ) (room export : List ℕ) (wanted : Bool) (ls : List Lending) (number : ℕ) → ShortIs (first_short ls) number → (number ≡ 0 → ⊥)
-    → SolvedAs (after_lending ls sheet budget) (text_of wanted (read sheet) (after_lending ls sheet budget)) room export (record { answer = Refused (record { number = number; line = 0 }); length = 0; text = 0 }) room export
+-- a question about what is lent is answered no: it ends the call, and what is made of no refusal is not written
+short-lent : (made : Result → List ℕ) (nothing : (q n : ℕ) → made (refusal q n) ≡ []) (sheet : List ℕ) (budget : ℕ) (room : List ℕ) (ls : List Lending) (q : Question)
+    → some (question_number q) ≡ first_short ls → SolvedAs (after_lending ls sheet budget) (made (after_lending ls sheet budget)) room (Err (asked_of_call q)) room
 unfolding after_lending
-short-lent sheet budget room export wanted ls number short Some-number = from (first_short ls) refl short
-  where
-    from : (o : Option ℕ) → first_short ls ≡ o → ShortIs o number
-        → SolvedAs (after_lending ls sheet budget) (text_of wanted (read sheet) (after_lending ls sheet budget)) room export (record { answer = Refused (record { number = number; line = 0 }); length = 0; text = 0 }) room export
-    from none e h = absurd (Some-number h)
-    from (some q) e h = rw (e, after_lending, h.0) (refusal-written (read sheet) q 0 wanted room export)
+short-lent made nothing sheet budget room ls q short =
+    rw (after_lending, ← short) (refusal-written (question_number q) 0 (made (refusal (question_number q) 0)) room (nothing (question_number q) 0))
 
 -- ── one room ──
 
 -- where no question about it is answered no, the room is large enough
-pub lent-room : (room number : ℕ) → ShortIs (first_short (lendings room)) number → number ≡ 0 → room_bytes ≤ room
-lent-room room number short none-short =
-    by-test (leb room_bytes room) (λ e. leb-true room_bytes room e) (λ e. let h = rw (short-room room (leb-false room_bytes room e)) at short in absurd (omega (arith, h.0)))
+pub lent-room : (room : ℕ) → none ≡ first_short (lendings room) → room_bytes ≤ room
+lent-room room short =
+    by-test (leb room_bytes room) (λ e. leb-true room_bytes room e) (λ e. apart (let h = short ∙ short-room room (leb-false room_bytes room e) in cc))
+
+-- a refusal has no listing
+pub unlisted : (q n : ℕ) → listing_of (refusal q n) ≡ []
+unfolding listing_of
+unlisted q n = refl
 
 module _ (sheet : List ℕ) (budget : ℕ) (room : List ℕ) where
   -- a question about what is lent is answered no, or none is
-  pub short-solved : (number : ℕ) → ShortIs (first_short (lendings (length room))) number → (number ≡ 0 → ⊥)
-      → SolvedAs (result sheet budget room) [] room [] (record { answer = Refused (record { number = number; line = 0 }); length = 0; text = 0 }) room []
-  unfolding result text_of
-  short-solved = short-lent sheet budget room [] false (lendings (length room))
+  pub short-solved : (q : Question) → some (question_number q) ≡ first_short (lendings (length room))
+      → SolvedAs (result sheet budget room) (listing_of (result sheet budget room)) room (Err (asked_of_call q)) room
+  unfolding result
+  short-solved = short-lent listing_of unlisted sheet budget room (lendings (length room))
 
-  pub enough-solved : room_bytes ≤ length room → (export : List ℕ) (r : Solved) (after export_last : List ℕ)
-      → SolvedAs (answered (read sheet) budget) (text_of false (read sheet) (answered (read sheet) budget)) room export r after export_last
-      → SolvedAs (result sheet budget room) [] room [] r after []
-  unfolding text_of
-  enough-solved large export r after export_last h = rw (large-room sheet budget room large) (no_text_lem (answered (read sheet) budget) room export [] r after export_last h)
+  pub enough-solved : none ≡ first_short (lendings (length room)) → (r : Returned Solved Refusal) (after : List ℕ)
+      → SolvedAs (answered (read sheet) budget) (listing_of (answered (read sheet) budget)) room r after
+      → SolvedAs (result sheet budget room) (listing_of (result sheet budget room)) room r after
+  enough-solved short r after h = rw (large-room sheet budget room (lent-room (length room) short)) h
 
 -- what is written at the front of a room lies in it
 pub written-fits : (bytes room : List ℕ) {n : ℕ} {after : List ℕ} → n ≡ length bytes → after ≡ written bytes room → n ≤ length after
@@ -65,44 +63,37 @@ written-front bytes room size stored = rw (size, stored) (take-append_seam bytes
 -- ── two rooms ──
 
 -- question 1 is the first, as of the other calls
-pub asked-first : (room export number : ℕ) → ShortIs (first_short (lendings room)) number → (number ≡ 0 → ⊥) → ShortIs (first_short (export_lendings room export)) number
-asked-first room export number short Some-number =
+pub asked-first : (room export q : ℕ) → some q ≡ first_short (lendings room) → some q ≡ first_short (export_lendings room export)
+asked-first room export q short =
     by-test (leb room_bytes room)
-    (λ e. absurd (Some-number (rw (enough-room room (leb-true room_bytes room e)) at short)))
-    (λ e. rw (short-listing room export (leb-false room_bytes room e)) (rw (short-room room (leb-false room_bytes room e)) at short))
+    (λ e. apart (let h = short ∙ enough-room room (leb-true room_bytes room e) in cc))
+    (λ e. let small = leb-false room_bytes room e in short ∙ short-room room small ∙ sym (short-listing room export small))
 
 -- where no question about them is answered no, both rooms are large enough
-pub lent-rooms : (room export number : ℕ) → ShortIs (first_short (export_lendings room export)) number → number ≡ 0 → (room_bytes ≤ room) × (export_bytes ≤ export)
-lent-rooms room export number short none-short =
+pub lent-rooms : (room export : ℕ) → none ≡ first_short (export_lendings room export) → (room_bytes ≤ room) × (export_bytes ≤ export)
+lent-rooms room export short =
     by-test (leb room_bytes room)
     (λ e. by-test (leb export_bytes export)
     (λ d. (leb-true room_bytes room e, leb-true export_bytes export d))
-    (λ d. let h = rw (short-export room export (leb-true room_bytes room e) (leb-false export_bytes export d)) at short in absurd (omega (arith, h.0))))
-    (λ e. let h = rw (short-listing room export (leb-false room_bytes room e)) at short in absurd (omega (arith, h.0)))
+    (λ d. apart (let h = short ∙ short-export room export (leb-true room_bytes room e) (leb-false export_bytes export d) in cc)))
+    (λ e. apart (let h = short ∙ short-listing room export (leb-false room_bytes room e) in cc))
 
 module _ (sheet : List ℕ) (budget : ℕ) (room export : List ℕ) where
-  -- what is handed back and left, by the names that the contract has for it
-  module _ (answer : Answer) (n : ℕ) (room_last export_last : List ℕ) where
-    abbrev Meant : Type 0
-    Meant = (answer ≡ export_call sheet budget room export) × (n ≡ length (export_text sheet budget room export))
-        × (room_last ≡ room_after_export sheet budget room export) × (export_last ≡ export_after sheet budget room export)
-
-    export-meant : (r : Solved) → r.answer ≡ answer → r.text ≡ n
-        → SolvedAs (export_result sheet budget room export) (export_of (read sheet) (export_result sheet budget room export)) room export r room_last export_last → Meant
-    unfolding export_call export_text room_after_export export_after
-    export-meant r a t h = (rw a at h.answer, rw t at h.size_text, h.stored, h.stored_text)
+  abbrev came : Result
+  came = export_result sheet budget room export
 
   -- a question about what is lent is answered no, or none is
-  pub short-exported : (number : ℕ) → ShortIs (first_short (export_lendings (length room) (length export))) number → (number ≡ 0 → ⊥)
-      → Meant (Refused (record { number = number; line = 0 })) 0 room export
-  unfolding export_result text_of
-  short-exported number short Some-number =
-      export-meant (Refused (record { number = number; line = 0 })) 0 room export _ refl refl
-      (short-lent sheet budget room export true (export_lendings (length room) (length export)) number short Some-number)
+  pub short-exported : (q : Question) → some (question_number q) ≡ first_short (export_lendings (length room) (length export))
+      → SolvedAs came (export_of (read sheet) came) export (Err (asked_of_call q)) export × (room ≡ written (listing_of came) room)
+  unfolding export_result
+  short-exported q short =
+      let ls = export_lendings (length room) (length export) in
+      (short-lent (export_of (read sheet)) (refused-text (read sheet)) sheet budget export ls q short, (short-lent listing_of unlisted sheet budget room ls q short).stored)
 
-  pub enough-exported : room_bytes ≤ length room → export_bytes ≤ length export → (r : Solved) (room_last export_last : List ℕ)
-      → SolvedAs (answered (read sheet) budget) (text_of true (read sheet) (answered (read sheet) budget)) room export r room_last export_last
-      → Meant r.answer r.text room_last export_last
-  unfolding text_of
-  enough-exported large large_export r room_last export_last h =
-      export-meant r.answer r.text room_last export_last r refl refl (rw (enough-lent sheet budget room export large large_export) h)
+  pub enough-exported : none ≡ first_short (export_lendings (length room) (length export)) → (r : Returned Solved Refusal) (room_last export_last : List ℕ)
+      → SolvedAs (answered (read sheet) budget) (export_of (read sheet) (answered (read sheet) budget)) export r export_last
+      → room_last ≡ written (listing_of (answered (read sheet) budget)) room
+      → SolvedAs came (export_of (read sheet) came) export r export_last × (room_last ≡ written (listing_of came) room)
+  enough-exported short r room_last export_last h stored =
+      let (large, large_export) = lent-rooms (length room) (length export) short in
+      rw (enough-lent sheet budget room export large large_export) (h, stored)

@@ -1,5 +1,5 @@
 -- What the program prints, by what the call came to: what was made of an answer, or the line of a refusal. Assumes nothing.
-use Rattle.std.specs.Prelude.{ℕ, ◌≤◌, ◌≡◌}
+use Rattle.std.specs.Prelude.{ℕ, ◌≤◌, ◌≡◌, Result as Returned, Ok, Err}
 use Rattle.std.proofs.Math.Path.{refl, ap}
 use Rattle.std.proofs.Common.{sym, ◌∙◌, arith, length-append}
 use Rattle.std.proofs.lemmas.Bool.{false≢true}
@@ -24,6 +24,8 @@ use Rattle.theory.specs.ExportLaws.{enough-lent}
 use Rattle.column.specs.Sets.{sets-front}
 use Rattle.column.specs.Widths.{narrow-length}
 use Rattle.listing.specs.Puts.{Put}
+use Rattle.answering.specs.Solving.{SolvedAs}
+use Rattle.answering.specs.declared.Solved.{Solved}
 
 -- three columns and LF
 pub refusal-length : (q n : ℕ) → length (refusal_line q n) ≡ 13
@@ -78,12 +80,21 @@ module _ (made : Result → List ℕ) (nothing : (q n : ℕ) → made (refusal q
         let first = sets-front room bytes (omega (arith, refusal-length f.number f.line)) in
         (omega (arith, put.place, ap length prints), put.stored ∙ ap (λ (x : List ℕ). sets x 0 bytes) unchanged ∙ first ∙ ap (λ (x : List ℕ). written x room) (sym prints))
 
--- ── the two that are printed ──
+-- what is done with what a call left in a room: nothing more, or the line of the refusal is put there
+abbrev pub PrintedAs : Returned Solved Refusal → List ℕ → ℕ → List ℕ → Type 0
+PrintedAs (Ok solved) room n last = (n ≡ solved.length) × (last ≡ room)
+PrintedAs (Err f) room n last = Put room 0 (refusal_line f.number f.line) n last
 
--- a refusal has no listing
-pub unlisted : (q n : ℕ) → listing_of (refusal q n) ≡ []
-unfolding listing_of
-unlisted q n = refl
+-- so what is printed stands there
+pub printed-as : (made : Result → List ℕ) (nothing : (q n : ℕ) → made (refusal q n) ≡ []) (came : Result) (ends : came ≡ unended → ⊥) (room : List ℕ) (enough : 13 ≤ length room)
+    (r : Returned Solved Refusal) {after : List ℕ} → SolvedAs came (made came) room r after → (n : ℕ) (last : List ℕ) → PrintedAs r after n last
+    → (n ≡ length (printed_of made came)) × (last ≡ written (printed_of made came) room)
+printed-as made nothing came ends room enough (Ok solved) {after} h n last (size, same) =
+    rw (size, same) (print-answer made nothing came ends room enough h.answer h.size h.stored solved.counts refl)
+printed-as made nothing came ends room enough (Err f) h n last put =
+    print-refusal made nothing came ends room enough h.answer h.size h.stored f refl n last put
+
+-- ── the two that are printed ──
 
 -- where enough is lent, the program's result is the call's
 pub printed-result : (sheet : List ℕ) (budget : ℕ) (room : List ℕ) → room_bytes ≤ length room → printed_part sheet budget room ≡ printed_of listing_of (result sheet budget room)

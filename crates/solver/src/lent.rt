@@ -1,30 +1,28 @@
-// The questions about what is lent, in their order.
+// The questions about what is lent, in their order: the first one that is answered no.
+ghost use Rattle.std.specs.Prelude.{◌≡◌};
 ghost use Rattle.definitions.specs.Call.{lendings, first_short};
 ghost use Rattle.definitions.specs.Export.{export_lendings};
-ghost use Rattle.solver.specs.Lent.{ShortIs};
+ghost use Rattle.solver.specs.Lent.{short_of};
 
 use crate::{EXPORT_ROOM, ROOM};
+use definitions::Question;
 
-// The number of the first question that is answered no, or 0.
-pub fn first_short(room: usize) -> u8
-    ensures { ShortIs (first_short (lendings room)) result }
+pub fn check_room(room: usize) -> Result<(), Question>
+    ensures { short_of result ≡ first_short (lendings room) }
 {
     if room < ROOM {
-        return 1;
+        return Err(Question::Room);
     }
-    0
+    Ok(())
 }
 
 // The same for an export, which is lent a room of its own besides.
-pub fn first_short_export(room: usize, cnf: usize) -> u8
-    ensures { ShortIs (first_short (export_lendings room cnf)) result }
+pub fn check_rooms(room: usize, cnf: usize) -> Result<(), Question>
+    ensures { short_of result ≡ first_short (export_lendings room cnf) }
 {
-    let number = first_short(room);
-    if number != 0 {
-        return number;
-    }
+    check_room(room)?;
     if cnf < EXPORT_ROOM {
-        return 15;
+        return Err(Question::ExportRoom);
     }
-    0
+    Ok(())
 }

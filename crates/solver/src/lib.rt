@@ -4,10 +4,12 @@
 
 mod lent; // lent.rt: the questions about what is lent
 
-ghost use Rattle.std.specs.Prelude.{◌≡◌, [], length};
-ghost use Rattle.definitions.specs.Call.{result as result_of, call, listed_part, room_after, written, printed_part};
-ghost use Rattle.definitions.specs.Export.{export_call, export_text, room_after_export, export_after, printed_cnf};
-ghost use Rattle.answering.specs.Solving.{SolvedAs};
+ghost use Rattle.std.specs.Prelude.{◌≤◌, ◌≡◌, length};
+ghost use Rattle.definitions.specs.Questions.{read};
+ghost use Rattle.definitions.specs.Call.{result as result_of, listing_of, call, listed_part, room_after, written, printed_part};
+ghost use Rattle.definitions.specs.Export.{export_result, export_of, export_call, export_text, room_after_export, export_after, printed_cnf};
+ghost use Rattle.answering.specs.Solving.{SolvedAs, answer_in, length_in};
+ghost use Rattle.solver.specs.PrintLaws.{PrintedAs};
 
 use answering::Solved;
 use definitions::{Answer, Exported, Refusal};
@@ -21,20 +23,29 @@ pub const EXPORT_ROOM: usize = 16384;
 // A buffer for a sheet: with one byte more than a sheet may have, a longer one shows.
 pub const SHEET_BUFFER: usize = sheet::SHEET_BYTES + 1;
 
-// Both calls in one: the answer of the first, the length of what the second hands back, the room of either.
-fn solve_both(sheet: &[u8], budget: u32, room: &mut [u8]) -> Solved
-    ensures { SolvedAs (result_of sheet.now budget room.old) [] room.old [] result room.new [] }
+// The call, with what it left in the room.
+fn listed(sheet: &[u8], budget: u32, room: &mut [u8]) -> Result<Solved, Refusal>
+    ensures { SolvedAs (result_of sheet.now budget room.old) (listing_of (result_of sheet.now budget room.old)) room.old result room.new }
 {
-    let number = lent::first_short(room.len());
-    if number != 0 {
-        return Solved {
-            answer: Answer::Refused(Refusal { number, line: 0 }),
+    lent::check_room(room.len())?;
+    answering::list(sheet, budget, room)
+}
+
+// What a call hands back: the answer, and how many bytes were put into a room, none for a refusal.
+fn handed(solved: Result<Solved, Refusal>) -> Exported
+    ensures answer { result.answer ≡ answer_in solved }
+    ensures length { result.length ≡ length_in solved }
+{
+    match solved {
+        Ok(solved) => Exported {
+            answer: Answer::Answered(solved.counts),
+            length: solved.length,
+        },
+        Err(refusal) => Exported {
+            answer: Answer::Refused(refusal),
             length: 0,
-            text: 0,
-        };
+        },
     }
-    let mut none = [0u8; 0];
-    answering::answered(sheet, budget, room, &mut none, false)
 }
 
 // The call: hands back the answer with its record, and leaves the listing at the front of the room.
@@ -42,8 +53,8 @@ pub fn solve(sheet: &[u8], budget: u32, room: &mut [u8]) -> Answer
     ensures answer { result ≡ call sheet.now budget room.old }
     ensures room { room.new ≡ room_after sheet.now budget room.old }
 {
-    let solved = solve_both(sheet, budget, room);
-    solved.answer
+    let solved = listed(sheet, budget, room);
+    handed(solved).answer
 }
 
 // The second call for those who keep the room: leaves it as the first does; how many bytes at its front hold the listing, 0 for a refusal.
@@ -51,8 +62,8 @@ pub fn list(sheet: &[u8], budget: u32, room: &mut [u8]) -> usize
     ensures length { result ≡ length (listed_part sheet.now budget room.old) }
     ensures room { room.new ≡ room_after sheet.now budget room.old }
 {
-    let solved = solve_both(sheet, budget, room);
-    solved.length
+    let solved = listed(sheet, budget, room);
+    handed(solved).length
 }
 
 // The second call: hands back the front part of the room that holds the listing, an empty part for a refusal. Once a part is handed back,
@@ -65,6 +76,18 @@ pub fn solve_listing<'a, 'b>(sheet: &'b [u8], budget: u32, room: &'a mut [u8]) -
     &mut room[..length]
 }
 
+// What the program prints of a call that left what it made at the front of a room: that, or the line of a refusal, put there. How many
+// bytes it has.
+fn printed(solved: Result<Solved, Refusal>, room: &mut [u8]) -> usize
+    requires { 13 ≤ length room.old }
+    ensures { PrintedAs solved room.old result room.new }
+{
+    match solved {
+        Ok(solved) => solved.length,
+        Err(refusal) => listing::put_refusal(room, refusal),
+    }
+}
+
 // What the program prints for a sheet, at the front of the room: the listing, or the line of a refusal. How many bytes it has. With a
 // room that is too small nothing is done, and 0 is handed back.
 pub fn print(sheet: &[u8], budget: u32, room: &mut [u8]) -> usize
@@ -74,12 +97,18 @@ pub fn print(sheet: &[u8], budget: u32, room: &mut [u8]) -> usize
     if room.len() < ROOM {
         return 0;
     }
-    let solved = solve_both(sheet, budget, room);
-    let answer = solved.answer;
-    match answer {
-        Answer::Refused(refusal) => listing::put_refusal(room, refusal.number, refusal.line),
-        Answer::Answered(_) => solved.length,
-    }
+    let solved = listed(sheet, budget, room);
+    printed(solved, room)
+}
+
+// The export, with what it left in both rooms.
+fn exported(sheet: &[u8], budget: u32, room: &mut [u8], cnf: &mut [u8]) -> Result<Solved, Refusal>
+    ensures text { SolvedAs (export_result sheet.now budget room.old cnf.old)
+        (export_of (read sheet.now) (export_result sheet.now budget room.old cnf.old)) cnf.old result cnf.new }
+    ensures room { room.new ≡ written (listing_of (export_result sheet.now budget room.old cnf.old)) room.old }
+{
+    lent::check_rooms(room.len(), cnf.len())?;
+    answering::export(sheet, budget, room, cnf)
 }
 
 // The export call: hands back the answer and leaves the listing room as the first call does, and leaves the goal clauses and the log as
@@ -90,19 +119,8 @@ pub fn export(sheet: &[u8], budget: u32, room: &mut [u8], cnf: &mut [u8]) -> Exp
     ensures room { room.new ≡ room_after_export sheet.now budget room.old cnf.old }
     ensures cnf { cnf.new ≡ export_after sheet.now budget room.old cnf.old }
 {
-    let number = lent::first_short_export(room.len(), cnf.len());
-    if number != 0 {
-        return Exported {
-            answer: Answer::Refused(Refusal { number, line: 0 }),
-            length: 0,
-        };
-    }
-    let solved = answering::answered(sheet, budget, room, cnf, true);
-    let answer = solved.answer;
-    Exported {
-        answer,
-        length: solved.text,
-    }
+    let solved = exported(sheet, budget, room, cnf);
+    handed(solved)
 }
 
 // What the program prints of a sheet for its word `cnf`, at the front of the room: the text, or the line of a refusal. How many bytes
@@ -112,10 +130,6 @@ pub fn print_cnf(sheet: &[u8], budget: u32, cnf: &mut [u8; EXPORT_ROOM]) -> usiz
     ensures cnf { cnf.new ≡ written (printed_cnf sheet.now budget) cnf.old }
 {
     let mut room = [0u8; ROOM];
-    let exported = export(sheet, budget, &mut room, cnf);
-    let answer = exported.answer;
-    match answer {
-        Answer::Answered(_) => exported.length,
-        Answer::Refused(refusal) => listing::put_refusal(cnf, refusal.number, refusal.line),
-    }
+    let solved = exported(sheet, budget, &mut room, cnf);
+    printed(solved, cnf)
 }

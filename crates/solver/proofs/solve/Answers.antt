@@ -1,9 +1,10 @@
--- `solver::solve` meets its contract: the answer of both calls in one. Assumes nothing.
+-- `solve` meets its contract: the answer of the call, and what it left. Assumes nothing.
+use Rattle.std.proofs.Common.{◌∙◌}
 use Rattle.definitions.specs.Call.{call, room_after}
 use Rattle.solver.proofs.solve.Goals as goal
 
 pub returns : goal.returns
 unfolding call room_after
 returns c =
-    let e = c.solve_both-solved in
-    record { answer = e.ensures.answer; room = e.ensures.stored }
+    let e = c.listed-solved.ensures in
+    record { answer = c.handed.ensures.answer ∙ e.answer; room = e.stored }
