@@ -1,12 +1,9 @@
 -- What is kept of clauses, so that step A reads only those that ask for something: for each clause how many of its different literals are not
 -- false and how many are true, which clauses hold a literal, and which clauses ask. Assumes nothing.
 use Rattle.std.specs.Prelude.{ℕ, ◌+◌, ◌*◌, ◌/◌, ◌%◌, Bool, true, false, ◌&&◌, List, map, eqb, leb, ltb, length, get_or}
-use denote.Triple.Both.{Both}
 use Rattle.bits.specs.Bits.{has, packed}
 use Rattle.definitions.specs.Lists.{any, filter, distinct, up_from}
 use Rattle.definitions.specs.ClauseNumbers.{Numbers}
-use Rattle.std.proofs.Common.{Bor}
-use Rattle.encoding.specs.Lent.{Array, Lent, Shared}
 use Rattle.encoding.specs.Values.{Values, true_word}
 use Rattle.units.specs.Units.{not_false_words}
 use Rattle.counters.specs.declared.Counters.{Counters}
@@ -56,21 +53,5 @@ module _ (values : Values) (clause : ℕ → List ℕ) (clauses : ℕ) where
     asking = map (λ (k : ℕ). packed 64 (λ (j : ℕ). ask_bit (64 * k + j))) (up_from 0 10);
   }
 
--- ── lent ──
-
 abbrev pub counters : List ℕ → List ℕ → List ℕ → Counters
 counters rows counts asking = record { rows = rows; counts = counts; asking = asking }
-
--- as a `requires` names their arrays, and at both moments
-abbrev pub counters_now : Array → Array → Array → Counters
-counters_now rows counts asking = counters rows.now counts.now asking.now
-
-abbrev pub lent_counters : Lent → Lent → Lent → Both Counters Counters
-lent_counters rows counts asking = record { entry = counters_now rows.entry counts.entry asking.entry; exit = counters_now rows.exit counts.exit asking.exit }
-
--- where the rows are only read
-abbrev pub counts_now : Bor (List ℕ) → Array → Array → Counters
-counts_now rows counts asking = counters rows.now counts.now asking.now
-
-abbrev pub lent_counts : Shared → Lent → Lent → Both Counters Counters
-lent_counts rows counts asking = record { entry = counts_now rows.entry counts.entry asking.entry; exit = counts_now rows.exit counts.exit asking.exit }

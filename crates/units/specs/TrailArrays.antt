@@ -1,7 +1,5 @@
 -- The trail as the search keeps it, and what setting and undoing make of it. Assumes nothing.
 use Rattle.std.specs.Prelude.{ℕ, ◌-◌, List, set, take, drop}
-use denote.Triple.Both.{Both}
-use Rattle.encoding.specs.Lent.{Lent, LentValues}
 use Rattle.encoding.specs.Values.{Values, assigned}
 use Rattle.units.specs.TrailWords.{cleared}
 use Rattle.units.specs.declared.trail.Mark.{Mark}
@@ -14,14 +12,6 @@ TrailArrays = Trail
 
 abbrev pub trail_arrays : Values → List ℕ → List ℕ → TrailArrays
 trail_arrays values words marks = record { values = values; words = words; marks = marks }
-
--- lent array by array
-abbrev pub lent_trail : LentValues → Lent → Lent → Both TrailArrays TrailArrays
-lent_trail values trail marks =
-    record {
-      entry = trail_arrays values.entry.now trail.entry.now marks.entry.now;
-      exit = trail_arrays values.exit.now trail.exit.now marks.exit.now;
-    }
 
 -- the number by which the trail notes why a literal is set
 abbrev pub mark_number : Mark → ℕ
