@@ -123,11 +123,12 @@ abbrev pub ClauseReads : Asked Clause → Result Sizes Question → Sizes → Le
 ClauseReads asked r s starts literals table index =
     ClauseRead asked r s starts.entry.now starts.exit.now literals.entry.now literals.exit.now table.entry.now table.exit.now index.entry.now index.exit.now
 
--- what the readers ask of the sizes and arrays: that they keep the limits
-pub record Ready (s : Sizes) (arities₀ index₀ : List ℕ) : Type 0 where
+-- what the readers ask of the sizes, the declared arities and the index: that they keep the limits
+pub record Ready (s : Sizes) (arities index₀ : List ℕ) : Type 0 where
   pub constants : s.constants ≤ 32
   pub symbols : s.symbols ≤ 16
-  pub arity : (i : ℕ) → get_or (take s.symbols arities₀) i 0 ≤ 3
+  pub declared : length arities ≤ 16
+  pub arity : (i : ℕ) → get_or arities i 0 ≤ 3
   pub rules : s.rules ≤ s.counted
   pub counted : s.counted ≤ 32
   pub clauses : s.clauses ≤ 64

@@ -27,7 +27,8 @@ use Rattle.lines.specs.LineReads.{Ready}
 use Rattle.sheet.specs.LineHolds.{LineHeld, SheetRead}
 use Rattle.sheet.specs.SheetLaws.{Started, draft-ready, start-refused, LineEnds, line-ends}
 use Rattle.encoding.specs.declared.Sizes.{Sizes}
-use Rattle.std.specs.Prelude.{Result, Ok, Err, map, take}
+use Rattle.std.specs.Prelude.{Result, Ok, Err, MatchResult, IsErrAnd, map, take}
+use Rattle.definitions.specs.declared.Refusal.{Refusal}
 use Rattle.definitions.specs.Numbered.{question_number}
 use Rattle.definitions.specs.declared.Question.{Question}
 use Rattle.encoding.specs.Signs.{number_of}
@@ -158,7 +159,8 @@ module _ (start : Arrays) (empty : start.index ≡ empty_index) (wide : length s
   ends-yes (yes d) k r after h s e = let g = h.1 in (d, refl, h.0, (cc), h.2)
 
 module _ {sheet : List ℕ} {start held : Arrays} {s : Sizes} {before from line : ℕ} (reached : ReadUpTo sheet start held s before from line) where
-  pub reached-ready : Ready s held.arities held.index
+  pub reached-ready : Ready s (take s.symbols held.arities) held.index
+  unfolding sizes_of
   reached-ready =
       rw (reached.sizes, reached.holds)
       (draft-ready start reached.empty reached.wide reached.draft reached.started)
@@ -213,3 +215,29 @@ module _ {sheet : List ℕ} {start held : Arrays} {s : Sizes} {before from line 
               counted = omega (arith, reached.counted, starts.ends);
               rest = cc (reached.rest, q, line_first sheet from end starts.more starts.ends, add-one line);
             }
+
+-- ── a question as a refusal of its line ──
+
+abbrev pub refusal_of : Question → ℕ → Refusal
+refusal_of q line = record { number = question_number q; line = line }
+
+module _ {A : Type 0} (r : Result A Question) (out : Result A Refusal) (line : ℕ) (P : Question → Refusal → Type 0)
+    (cases : MatchResult r (λ x. out ≡ Ok x) (λ q. IsErrAnd out (P q))) where
+  pub mapped-ok : {x : A} → out ≡ Ok x → r ≡ Ok x
+  mapped-ok e = ok r cases e
+    where
+      ok : (r : Result A Question) → MatchResult r (λ x. out ≡ Ok x) (λ q. IsErrAnd out (P q)) → {x : A} → out ≡ Ok x → r ≡ Ok x
+      ok (Ok y) f e = cc
+      ok (Err q) f e = absurd (rw e at f)
+
+  pub mapped-err : ((q : Question) (d : Refusal) → P q d → d ≡ refusal_of q line) → {d : Refusal} → out ≡ Err d → (q : Question) × (r ≡ Err q) × (d ≡ refusal_of q line)
+  mapped-err post e = err r cases e
+    where
+      err : (r : Result A Question) → MatchResult r (λ x. out ≡ Ok x) (λ q. IsErrAnd out (P q)) → {d : Refusal} → out ≡ Err d → (q : Question) × (r ≡ Err q) × (d ≡ refusal_of q line)
+      err (Ok y) f e = cc
+      err (Err q) f {d} e = (q, refl, post q d (rw e at f))
+
+-- what is handed on
+pub handed : {A : Type 0} (r : Result A Refusal) (d : Refusal) → IsErrAnd r (λ x. x ≡ d) → r ≡ Err d
+handed (Ok x) d h = absurd h
+handed (Err x) d h = ap Err h

@@ -47,12 +47,13 @@ module _ (before : Arrays) (empty : before.index ≡ empty_index) (wide : length
   unfolding hold
   held-arities p h = sets-taken before.arities p.arities (omega arith)
 
-  limits-ready : (p : Problem) → Limits p → FromLines p → Ready (sizes_of p) (hold p before).arities (hold p before).index
+  limits-ready : (p : Problem) → Limits p → FromLines p → Ready (sizes_of p) (take (length p.arities) (hold p before).arities) (hold p before).index
   unfolding sizes_of
   limits-ready p l f =
       record {
         constants = l.constants;
         symbols = l.symbols;
+        declared = rw (held-arities p l.symbols) l.symbols;
         arity = λ i. rw (held-arities p l.symbols) (arity-limit p l i);
         rules = omega (arith, ap length f.rules, rules-counted p.rule_lines);
         counted = f.few;
@@ -62,12 +63,13 @@ module _ (before : Arrays) (empty : before.index ≡ empty_index) (wide : length
         index = hold-index-within p before empty;
       }
 
-  empty-ready : Ready (sizes_of empty_draft.problem) (hold empty_draft.problem before).arities (hold empty_draft.problem before).index
+  empty-ready : Ready (sizes_of empty_draft.problem) (take (length empty_draft.problem.arities) (hold empty_draft.problem before).arities) (hold empty_draft.problem before).index
   unfolding sizes_of empty_draft joined goal_atoms distinct counted
   empty-ready =
       record {
         constants = omega arith;
         symbols = omega arith;
+        declared = omega arith;
         arity = λ i. omega arith;
         rules = omega arith;
         counted = omega arith;
@@ -77,10 +79,10 @@ module _ (before : Arrays) (empty : before.index ≡ empty_index) (wide : length
         index = hold-index-within empty_draft.problem before empty;
       }
 
-  pub draft-ready : (d : Draft) → Started d → Ready (sizes_of d.problem) (hold d.problem before).arities (hold d.problem before).index
+  pub draft-ready : (d : Draft) → Started d → Ready (sizes_of d.problem) (take (length d.problem.arities) (hold d.problem before).arities) (hold d.problem before).index
   draft-ready d (inr b) = limits-ready d.problem b.limits b.from_lines
   draft-ready d (inl q) =
-      subst (λ (e : Draft). Ready (sizes_of e.problem) (hold e.problem before).arities (hold e.problem before).index) (sym q) empty-ready
+      subst (λ (e : Draft). Ready (sizes_of e.problem) (take (length e.problem.arities) (hold e.problem before).arities) (hold e.problem before).index) (sym q) empty-ready
 
   started-symbols : (d : Draft) → Started d → length d.problem.arities ≤ 16
   unfolding sizes_of

@@ -1,7 +1,7 @@
 // A sheet's bytes to the problem's arrays, question by question.
 #![tactic(auto)]
 
-ghost use Rattle.std.specs.Prelude.{◌≡◌, map, drop};
+ghost use Rattle.std.specs.Prelude.{◌≡◌, map, take, drop};
 ghost use Rattle.definitions.specs.Questions.{read};
 ghost use Rattle.definitions.specs.Numbered.{question_number};
 ghost use Rattle.encoding.specs.Signs.{number_of};
@@ -40,17 +40,24 @@ fn line_of_kind(
     table: &mut [u32; ATOMS],
     index: &mut [u16; CODES],
 ) -> Result<Sizes, Question>
-    requires { Ready s arities.old index.old }
+    requires { Ready s (take s.symbols arities.old) index.old }
     ensures { Leaves (LineHeld (number_of_kind kind) (drop 1 (map number_of line.now)) result s) (lent_arrays arities rules starts literals table index) }
 {
     match kind {
         Kind::Constants => lines::constants_line(line, s),
         Kind::Symbol => lines::symbol_line(line, s, arities),
-        Kind::Rule => lines::one_way::rule_line(line, s, arities, slots, rules),
-        Kind::TwoWay => lines::two_way::two_way_line(line, s, arities, slots, rules),
-        Kind::Clause => {
-            lines::clause_line(line, s, arities, slots, starts, literals, table, index)
-        }
+        Kind::Rule => lines::one_way::rule_line(line, s, &arities[..s.symbols], slots, rules),
+        Kind::TwoWay => lines::two_way::two_way_line(line, s, &arities[..s.symbols], slots, rules),
+        Kind::Clause => lines::clause_line(
+            line,
+            s,
+            &arities[..s.symbols],
+            slots,
+            starts,
+            literals,
+            table,
+            index,
+        ),
     }
 }
 
@@ -91,11 +98,10 @@ pub fn read_sheet(
     starts[0] = 0;
     while from < sheet.len() {
         let end = rows::line_end(sheet, from);
-        let LineStart { kind, filled } = match rows::read_line(sheet, from, end, before, &mut row) {
-            Ok(start) => start,
-            Err(question) => return Err(refusal(question, line)),
-        };
-        s = match line_of_kind(
+        let LineStart { kind, filled } = rows::read_line(
+            sheet, from, end, before, &mut row,
+        ).map_err(|question| refusal(question, line))?;
+        s = line_of_kind(
             kind,
             &row[..filled],
             s,
@@ -106,10 +112,8 @@ pub fn read_sheet(
             literals,
             table,
             index,
-        ) {
-            Ok(sizes) => sizes,
-            Err(question) => return Err(refusal(question, line)),
-        };
+        )
+        .map_err(|question| refusal(question, line))?;
         before = Some(kind);
         from = end + 1;
         line += 1;

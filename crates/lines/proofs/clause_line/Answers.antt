@@ -1,5 +1,5 @@
 -- `lines::clause_line` meets its contract: the count return by return, then the clause by what its slots hold. Assumes nothing.
-use Rattle.std.proofs.Common.{arith, refl, sym, ◌∙◌, ◌≤◌, length, take, length-take}
+use Rattle.std.proofs.Common.{arith, refl, sym, ◌∙◌}
 use Rattle.std.proofs.lemmas.Bool.{eqb-false}
 use Rattle.rows.specs.Rows.{counted}
 use Rattle.lines.specs.LineReads.{more_clauses}
@@ -30,9 +30,8 @@ returns-then-not-is_empty c =
 pub enter_clause-atoms-requires : goal.enter_clause-atoms-requires
 unfolding counted
 enter_clause-atoms-requires c =
-    let declared-few : length (take c.args.s.symbols c.args.arities.now) ≤ 16 = omega (arith, c.requires.symbols, length-take c.args.s.symbols c.args.arities.now) in
     let ready = c.requires in
-    let slots = clause-slots _ c.args.s _ _ _ _ c.in_ok-count.ensures.asked (omega (arith, c.requires.clauses)) _ (rw words-from at c.in_ok-left.ensures) c.in_ok-count.ensures.fits.1 (omega arith) ready.constants declared-few in
+    let slots = clause-slots _ c.args.s _ _ _ _ c.in_ok-count.ensures.asked (omega (arith, c.requires.clauses)) _ (rw words-from at c.in_ok-left.ensures) c.in_ok-count.ensures.fits.1 (omega arith) ready.constants ready.declared in
     (c.in_ok-count.ensures.fits.1, ready.atoms, omega (arith, ready.literals, ready.clauses, c.in_ok-count.ensures.fits.1), slots, ready.index)
 
 pub returns-then-atoms-gt-GOALS : goal.returns-then-atoms-gt-GOALS
