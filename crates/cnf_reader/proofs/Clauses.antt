@@ -1,79 +1,81 @@
 -- The clauses that the lines make: what a line stores stands in front of what the lines behind it store. Assumes nothing.
-use Prim.Native.Nat.{ℕ, suc, ◌+◌}
-use mathlib.Core.Path.{◌≡◌, refl, ◌∙◌}
-use mathlib.Core.Bool.{Bool, false}
-use mathlib.Core.List.{List, ◌∷◌, map}
-use native.Mathlib.Omega.{arith}
-use lib.Dec.{leb}
-use lib.ListN.{length, drop, set, length-map}
-use borrow.Author.Tests.{leb-true, leb-false}
+use Rattle.std.proofs.Common.{◌≡◌, refl, sym, ap, true, false, nat_eq, ◌∙◌, ℕ, zero, suc, ◌+◌, List, [], ◌∷◌, map, length, set, replicate, arith, eqb-true}
+use Rattle.std.proofs.lemmas.Bool.{false≢true}
+use Rattle.std.proofs.Math.ListN.{length-map}
 use Rattle.definitions.specs.Lists.{is_empty, joined}
-use Rattle.definitions.specs.Bounds.{most_literals}
 use Rattle.definitions.specs.Sheet.{Number}
-use Rattle.definitions.specs.Questions.{Asked, no, yes, ◌>>=◌, ◌>>◌, ask}
-use Rattle.definitions.specs.Dimacs.{Front, clause_line_at, clauses_at}
-use Rattle.theory.specs.Tests.{by-test, apart}
-use Rattle.theory.specs.AskedLaws.{by-asked}
+use Rattle.definitions.specs.Questions.{no, yes, ◌>>=◌, ◌>>◌, ask}
+use Rattle.definitions.specs.Dimacs.{clause_line_at, clauses_at}
+use Rattle.theory.specs.AskedLaws.{bind-yes, ask-yes, yes-injective}
 use Rattle.column.specs.Sets.{sets-append}
 use Rattle.encoding.specs.Encoding.{starts_from}
 use Rattle.cnf_reader.specs.CnfArrays.{number_word}
-use Rattle.cnf_reader.specs.Lines.{CnfLineHeld, CnfLineRead, ClausesRead}
-use Rattle.cnf_reader.specs.declared.clause_lines.LineAt.TheVariants.{Line, NoLine}
-use Rattle.cnf_reader.proofs.Places.{behind-end, byte-here}
+use Rattle.cnf_reader.specs.Lines.{LineHeld, ClausesHeld, CnfHeld}
 
-module _ (text : List ℕ) (atoms left at i used : ℕ) (starts literals : List ℕ) where
+-- what the rest of the lines comes to, so do all, with the clauses that stand
+pub record ClausesGoOn (atoms clauses : ℕ) (text : List ℕ) (starts0 literals0 : List ℕ) (left : ℕ) (rest : List ℕ) (i used : ℕ) (starts literals : List ℕ) : Type 0 where
+  pub none : clauses_at atoms left rest ≡ no 22 → clauses_at atoms clauses text ≡ no 22
+  pub held : (starts' literals' : List ℕ) → ClausesHeld (clauses_at atoms left rest) i used starts literals starts' literals'
+      → ClausesHeld (clauses_at atoms clauses text) 0 0 starts0 literals0 starts' literals'
+
+module _ {atoms clauses left i used : ℕ} {text starts0 literals0 rest starts literals : List ℕ}
+    (on : ClausesGoOn atoms clauses text starts0 literals0 left rest i used starts literals) where
   -- no line is left: nothing may stand behind them
-  pub clauses-end : left ≡ 0 → ClausesRead (clauses_at atoms left (drop at text)) i used starts literals (leb (length text) at) (set starts i used) literals
-  unfolding clauses_at is_empty ask ◌>>◌ starts_from joined
-  clauses-end e =
-      by-test (leb (length text) at)
-      (λ t. rw (e, behind-end text at (leb-true (length text) at t)) (record { answer = t; places = refl; words = refl }))
-      (λ f. rw (e, byte-here text at (leb-false (length text) at f)) (refl, f))
+  module _ (last : left ≡ 0) where
+    pub clauses-end : nat_eq (length rest) 0 ≡ true → ClausesHeld (clauses_at atoms clauses text) 0 0 starts0 literals0 (set starts i used) literals
+    unfolding clauses_at is_empty ask ◌>>◌ starts_from joined
+    clauses-end e = on.held (set starts i used) literals (rw last (at_end rest e))
+      where
+        at_end : (rest : List ℕ) → nat_eq (length rest) 0 ≡ true → ClausesHeld (clauses_at atoms 0 rest) i used starts literals (set starts i used) literals
+        at_end [] e = record { clauses = []; reads = refl; places = refl; words = refl }
+        at_end (b ∷ bs) e = absurd (omega (arith, eqb-true (length (b ∷ bs)) 0 e))
+
+    pub clauses-more : nat_eq (length rest) 0 ≡ false → clauses_at atoms clauses text ≡ no 22
+    unfolding clauses_at is_empty ask ◌>>◌
+    clauses-more n = on.none (rw last (behind rest n))
+      where
+        behind : (rest : List ℕ) → nat_eq (length rest) 0 ≡ false → clauses_at atoms 0 rest ≡ no 22
+        behind [] n = absurd (false≢true (sym n))
+        behind (b ∷ bs) n = refl
 
   module _ (place : ℕ) (more : left ≡ suc place) where
-    abbrev line : Asked (Front (List Number))
-    line = clause_line_at atoms most_literals (drop at text)
-
-    on_line : clauses_at atoms left (drop at text) ≡ (line >>= λ c. clauses_at atoms place c.behind >>= λ cs. yes (c.found ∷ cs))
+    on-line : clauses_at atoms left rest ≡ (clause_line_at atoms 8 rest >>= λ c. clauses_at atoms place c.behind >>= λ cs. yes (c.found ∷ cs))
     unfolding clauses_at
-    on_line = rw more
+    on-line = rw more
 
-    pub clauses-none : (words : List ℕ) → CnfLineRead text line used literals NoLine words
-        → (starts' literals' : List ℕ) → ClausesRead (clauses_at atoms left (drop at text)) i used starts literals false starts' literals'
+    pub clauses-none : clause_line_at atoms 8 rest ≡ no 22 → clauses_at atoms clauses text ≡ no 22
     unfolding ◌>>=◌
-    clauses-none words h starts' literals' =
-        by-asked line
-        (λ q e. rw (on_line, e) ((rw e at h).0, refl))
-        (λ f e. let held = rw e at h in let wrong = held.answer in apart (cc))
+    clauses-none e = on.none (on-line ∙ rw e)
 
-    rest_read : (f : Front (List Number)) (end next : ℕ) (words : List ℕ) → CnfLineHeld text f used literals (Line end next) words
-        → (rest : Asked (List (List Number))) (r : Bool) (starts' literals' : List ℕ)
-        → ClausesRead rest (i + 1) end (set starts i used) words r starts' literals'
-        → ClausesRead (rest >>= λ cs. yes (f.found ∷ cs)) i used starts literals r starts' literals'
+    pub clauses-turn : (end : ℕ) (behind words : List ℕ) → LineHeld (clause_line_at atoms 8 rest) used literals end behind words
+        → ClausesGoOn atoms clauses text starts0 literals0 place behind (i + 1) end (set starts i used) words
     unfolding ◌>>=◌ starts_from joined
-    rest_read f end next words h (no q) r starts' literals' g = g
-    rest_read f end next words h (yes cs) r starts' literals' g =
-        let answer = h.answer in
-        let ends : end ≡ used + length f.found = cc in
-        let behind : end ≡ used + length (map number_word f.found) = omega (arith, length-map f.found number_word) in
-        let next : i + 1 ≡ suc i = omega arith in
+    clauses-turn end behind words line =
         record {
-          answer = g.answer;
-          places = rw (next, ends) at g.places;
-          words = g.words ∙ rw (h.stored, behind) (sets-append literals used (map number_word f.found) (joined (map number_word) cs));
+          none = λ h. on.none (on-line ∙ rw (line.reads, h));
+          held = λ starts' literals' h.
+              let next : i + 1 ≡ suc i = omega arith in
+              let ends : end ≡ used + length (map number_word line.numbers) = omega (arith, line.place, length-map line.numbers number_word) in
+              on.held starts' literals' (record {
+                clauses = line.numbers ∷ h.clauses;
+                reads = on-line ∙ rw (line.reads, h.reads);
+                places = rw (next, line.place) at h.places;
+                words = h.words ∙ rw (line.stored, ends) (sets-append literals used (map number_word line.numbers) (joined (map number_word) h.clauses));
+              });
         }
 
-    pub clauses-turn : (end next : ℕ) (words : List ℕ) → CnfLineRead text line used literals (Line end next) words
-        → (r : Bool) (starts' literals' : List ℕ)
-        → ClausesRead (clauses_at atoms place (drop next text)) (i + 1) end (set starts i used) words r starts' literals'
-        → ClausesRead (clauses_at atoms left (drop at text)) i used starts literals r starts' literals'
-    unfolding ◌>>=◌
-    clauses-turn end next words h r starts' literals' g =
-        by-asked line
-        (λ q e. let wrong = (rw e at h).1 in apart (cc))
-        (λ f e.
-        let held : CnfLineHeld text f used literals (Line end next) words = rw e at h in
-        let answer = held.answer in
-        let same : held.next ≡ next = cc in
-        let behind : f.behind ≡ drop next text = rw same at held.behind in
-        rw (on_line, e, behind) (rest_read f end next words held (clauses_at atoms place (drop next text)) r starts' literals' g))
+-- exactly as many clauses as were asked for
+clauses-count : (atoms k : ℕ) (bs : List ℕ) (cs : List (List Number)) → clauses_at atoms k bs ≡ yes cs → length cs ≡ k
+unfolding clauses_at
+clauses-count atoms zero bs cs e = let none = yes-injective (ask-yes 22 (is_empty bs) (yes []) cs e).1 in rw (← none)
+clauses-count atoms (suc k) bs cs e =
+    let (c, p, f) = bind-yes (clause_line_at atoms 8 bs) _ cs e in
+    let (more, q, g) = bind-yes (clauses_at atoms k c.behind) _ cs f in
+    let all = yes-injective g in
+    rw (← all) (ap suc (clauses-count atoms k c.behind more q))
+
+pub all-held : (atoms clauses : ℕ) (text starts literals : List ℕ)
+    → ClausesHeld (clauses_at atoms clauses text) 0 0 (replicate 577 0) (replicate 4608 0) starts literals
+    → CnfHeld (clauses_at atoms clauses text) atoms (record { atoms = atoms; clauses = clauses; starts = starts; literals = literals })
+all-held atoms clauses text starts literals h =
+    record { clauses = h.clauses; reads = h.reads; is = rw (h.places, h.words, clauses-count atoms clauses text h.clauses h.reads) }

@@ -1,4 +1,4 @@
-pub mod Places
+pub mod Fronts
 pub mod Numbers
 pub mod ClauseLines
 pub mod Clauses

@@ -1,54 +1,46 @@
 -- A decimal between limits with the byte that ends it, and the header that has two of them. Assumes nothing.
-use Prim.Native.Nat.{ℕ, ◌≤◌, ◌<◌}
-use mathlib.Core.Path.{◌≡◌, sym, ◌∙◌}
-use mathlib.Core.Bool.{Bool, true, false, ◌&&◌}
-use mathlib.Core.List.{List}
-use native.Mathlib.Omega.{arith}
-use lib.Dec.{leb}
-use lib.ListN.{drop}
-use borrow.Author.Tests.{le-leb, lt-leb}
+use Rattle.std.proofs.Common.{◌≡◌, ◌∙◌, ℕ, ◌≤◌, ◌<◌, ◌⊎◌, inl, inr, Bool, true, false, ◌&&◌, leb, List, [], ◌∷◌, le-leb, arith}
+use Rattle.std.proofs.lemmas.Bool.{lt-leb}
 use Rattle.definitions.specs.Bounds.{most_atoms, most_exported}
 use Rattle.definitions.specs.Text.{bytes}
-use Rattle.definitions.specs.Questions.{Asked, yes, ◌>>=◌, ◌>>◌, ask}
+use Rattle.definitions.specs.Questions.{Asked, no, yes, ◌>>=◌, ◌>>◌, ask}
 use Rattle.definitions.specs.Dimacs.{Front, front, expect, expects, decimal_at, Header, header_at}
 use Rattle.theory.specs.Tests.{and_intro}
 use Rattle.theory.specs.AskedLaws.{by-asked}
-use Rattle.cnf_reader.specs.Parts.{place_of, decimal_of, number_at, header_of}
-use Rattle.cnf_reader.specs.declared.parts.Behind.TheVariants.{At, Nowhere}
-use Rattle.cnf_reader.specs.declared.parts.DecimalAt.TheVariants.{Decimal, NoDecimal}
-use Rattle.cnf_reader.specs.declared.parts.HeaderAt.TheVariants.{Named, NoHeader}
+use Rattle.cnf_reader.specs.Parts.{number_at}
 
-module _ (text bs : List ℕ) (q least most end : ℕ) where
-  pub number-none : decimal_of q text NoDecimal ≡ decimal_at q bs → decimal_of q text NoDecimal ≡ number_at q least most end bs
-  unfolding decimal_of number_at ◌>>=◌
-  number-none e = rw (← e)
+-- one byte, and bytes that are one
+one-byte : (q b : ℕ) (bs : List ℕ) → expects q (b ∷ []) bs ≡ expect q b bs
+unfolding expects ◌>>=◌
+one-byte q b bs = by-asked (expect q b bs) (λ p e. rw e) (λ rest e. rw e)
 
-  module _ (size next : ℕ) (read : decimal_of q text (Decimal size next) ≡ decimal_at q bs) where
+module _ (q least most end : ℕ) (bs : List ℕ) where
+  pub number-none : decimal_at q bs ≡ no q → number_at q least most end bs ≡ no q
+  unfolding number_at ◌>>=◌
+  number-none e = rw e
+
+  module _ (size : ℕ) (rest : List ℕ) (read : decimal_at q bs ≡ yes (front size rest)) where
     asked : (t : Bool) → (leb least size && leb size most) ≡ t
-        → number_at q least most end bs ≡ (ask q t >> (expect q end (drop next text) >>= λ behind. yes (front size behind)))
-    unfolding decimal_of number_at ◌>>=◌
-    asked t e = rw (← read, e)
+        → number_at q least most end bs ≡ (ask q t >> (expect q end rest >>= λ behind. yes (front size behind)))
+    unfolding number_at ◌>>=◌
+    asked t e = rw (read, e)
 
-    pub number-too-small : size < least → decimal_of q text NoDecimal ≡ number_at q least most end bs
-    unfolding decimal_of ask ◌>>◌
-    number-too-small h = sym (asked false (rw (lt-leb least size h)))
-
-    pub number-too-large : least ≤ size → most < size → decimal_of q text NoDecimal ≡ number_at q least most end bs
-    unfolding decimal_of ask ◌>>◌
-    number-too-large l h = sym (asked false (rw (le-leb least size l, lt-leb size most h)))
+    pub number-out : (size < least) ⊎ ((least ≤ size) × (most < size)) → number_at q least most end bs ≡ no q
+    unfolding ask ◌>>◌
+    number-out (inl h) = asked false (rw (lt-leb least size h))
+    number-out (inr h) = asked false (rw (le-leb least size h.0, lt-leb size most h.1))
 
     module _ (low : least ≤ size) (high : size ≤ most) where
       between : (leb least size && leb size most) ≡ true
       between = and_intro (leb least size) (leb size most) (le-leb least size low) (le-leb size most high)
 
-      pub number-ended : (behind : ℕ) → place_of q text (At behind) ≡ expect q end (drop next text)
-          → decimal_of q text (Decimal size behind) ≡ number_at q least most end bs
-      unfolding decimal_of place_of ask ◌>>◌ ◌>>=◌
-      number-ended behind e = sym (asked true between ∙ rw (← e))
+      pub number-ended : (behind : List ℕ) → expects q (end ∷ []) rest ≡ yes behind → number_at q least most end bs ≡ yes (front size behind)
+      unfolding ask ◌>>◌ ◌>>=◌
+      number-ended behind e = asked true between ∙ rw (← one-byte q end rest, e)
 
-      pub number-unended : place_of q text Nowhere ≡ expect q end (drop next text) → decimal_of q text NoDecimal ≡ number_at q least most end bs
-      unfolding decimal_of place_of ask ◌>>◌ ◌>>=◌
-      number-unended e = sym (asked true between ∙ rw (← e))
+      pub number-unended : expects q (end ∷ []) rest ≡ no q → number_at q least most end bs ≡ no q
+      unfolding ask ◌>>◌ ◌>>=◌
+      number-unended e = asked true between ∙ rw (← one-byte q end rest, e)
 
 -- ── the header ──
 
@@ -76,32 +68,16 @@ clauses_part atoms bs = do
   behind_line ← expect 21 10 clauses.behind
   yes (front (record { atoms = atoms; clauses = clauses.found }) behind_line)
 
-module _ (text : List ℕ) where
-  pub header-unnamed : place_of 21 text Nowhere ≡ expects 21 (bytes "p cnf ") text → header_of text NoHeader ≡ header_at text
-  unfolding header_of place_of header_at ◌>>=◌
-  header-unnamed e = rw (← e)
-
-  module _ (first : ℕ) (name : place_of 21 text (At first) ≡ expects 21 (bytes "p cnf ") text) where
-    atoms-next : header_at text ≡ (number_at 21 0 most_atoms 32 (drop first text) >>= λ n. clauses_part n.found n.behind)
-    unfolding header_at place_of ◌>>=◌
-    atoms-next = rw (← name) (number-then 21 most_atoms 32 (drop first text) clauses_part)
-
-    pub header-no-atoms : decimal_of 21 text NoDecimal ≡ number_at 21 0 most_atoms 32 (drop first text) → header_of text NoHeader ≡ header_at text
-    unfolding header_of decimal_of ◌>>=◌
-    header-no-atoms e = sym (atoms-next ∙ rw (← e))
-
-    module _ (atoms second : ℕ) (named : decimal_of 21 text (Decimal atoms second) ≡ number_at 21 0 most_atoms 32 (drop first text)) where
-      clauses-next : header_at text
-          ≡ (number_at 21 0 most_exported 10 (drop second text) >>= λ n. yes (front (record { atoms = atoms; clauses = n.found }) n.behind))
-      unfolding decimal_of ◌>>=◌
-      clauses-next =
-          atoms-next ∙ rw (← named) (number-then 21 most_exported 10 (drop second text) (λ clauses behind. yes (front (record { atoms = atoms; clauses = clauses }) behind)))
-
-      pub header-no-clauses : decimal_of 21 text NoDecimal ≡ number_at 21 0 most_exported 10 (drop second text) → header_of text NoHeader ≡ header_at text
-      unfolding header_of decimal_of ◌>>=◌
-      header-no-clauses e = sym (clauses-next ∙ rw (← e))
-
-      pub header-named : (clauses next : ℕ) → decimal_of 21 text (Decimal clauses next) ≡ number_at 21 0 most_exported 10 (drop second text)
-          → header_of text (Named atoms clauses next) ≡ header_at text
-      unfolding header_of decimal_of ◌>>=◌
-      header-named clauses next e = sym (clauses-next ∙ rw (← e))
+-- the header is `p cnf `, and two numbers
+pub header-parts : (text : List ℕ) → header_at text ≡ (expects 21 (112 ∷ 32 ∷ 99 ∷ 110 ∷ 102 ∷ 32 ∷ []) text
+    >>= λ first. number_at 21 0 256 32 first
+    >>= λ atoms. number_at 21 0 576 10 atoms.behind
+    >>= λ clauses. yes (front (record { atoms = atoms.found; clauses = clauses.found }) clauses.behind))
+unfolding header_at ◌>>=◌ bytes
+header-parts text =
+    by-asked (expects 21 (112 ∷ 32 ∷ 99 ∷ 110 ∷ 102 ∷ 32 ∷ []) text)
+    (λ q e. rw e)
+    (λ first e. rw e (number-then 21 most_atoms 32 first clauses_part
+    ∙ by-asked (number_at 21 0 most_atoms 32 first)
+    (λ q f. rw f)
+    (λ atoms f. rw f (number-then 21 most_exported 10 atoms.behind (λ clauses behind. yes (front (record { atoms = atoms.found; clauses = clauses }) behind))))))

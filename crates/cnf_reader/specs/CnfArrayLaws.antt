@@ -1,8 +1,8 @@
 -- The arrays of `read_cnf` give the clauses back. Assumes nothing.
 use Prim.Native.Nat.{ℕ, suc, ◌+◌, ◌*◌, ◌≤◌}
-use Rattle.std.specs.Prelude.{◌≡◌, get_or, drop, replicate}
+use Rattle.std.specs.Prelude.{◌≡◌, get_or, drop, replicate, IfOk}
 use Rattle.std.proofs.Math.Path.{refl}
-use Rattle.std.proofs.Common.{ap, ◌∙◌, arith}
+use Rattle.std.proofs.Common.{ap, ◌∙◌, arith, inl, inr}
 use mathlib.Core.List.Memᴰ
 use mathlib.Core.List.{List, [], ◌∷◌, ◌++◌, map, append_assoc}
 use Rattle.std.proofs.Math.ListN.{length, length-append, length-map}
@@ -11,12 +11,15 @@ use Rattle.std.proofs.Math.Seq.{length-sets, get_or-append_seam, get_or-append-a
 use Rattle.definitions.specs.Lists.{◌∈◌, joined, up_from}
 use Rattle.definitions.specs.Sheet.{Number}
 use Rattle.definitions.specs.Questions.{Asked, no, yes}
-use Rattle.definitions.specs.Dimacs.{Cnf, CnfLimits}
+use Rattle.definitions.specs.Dimacs as dimacs
+use Rattle.definitions.specs.Dimacs.{read_cnf, CnfLimits}
+use Rattle.definitions.specs.Numbered.{question_number}
+use Rattle.theory.specs.CnfRefusals.{cnf-refusals}
 use Rattle.column.specs.Sets.{sets-front}
 use Rattle.encoding.specs.Signs.{number_of, number_word_lem}
 use Rattle.encoding.specs.Encoding.{starts_from}
 use Rattle.encoding.specs.HoldLaws.{starts-length}
-use Rattle.cnf_reader.specs.CnfArrays.{number_word, cnf_read, held_clause, held_count, held_clauses}
+use Rattle.cnf_reader.specs.CnfArrays.{number_word, text_question, cnf_read, held_clause, held_clauses}
 
 -- the words of numbers are read as the numbers
 words-read : (ns : List Number) → map number_of (map number_word ns) ≡ ns
@@ -86,17 +89,21 @@ module _ (starts literals : List ℕ) where
       (rw (next, starts-on places words c cs, words-on places words c cs) at (held-from (places ++ (length words ∷ [])) (words ++ map number_word c) cs)))
 
 -- the arrays have their lengths, whatever was read
-pub array-lengths : (a : Asked Cnf) → (length (cnf_read a).starts ≡ 577) × (length (cnf_read a).literals ≡ 4608)
+pub array-lengths : (a : Asked dimacs.Cnf) → IfOk (cnf_read a) (λ c. (length c.starts ≡ 577) × (length c.literals ≡ 4608))
 unfolding cnf_read
-array-lengths (no q) = (length-replicate {A = ℕ} 577 0, length-replicate {A = ℕ} 4608 0)
+array-lengths (no q) = tt
 array-lengths (yes c) = (
   length-sets (replicate 577 0) 0 (starts_from 0 c.clauses) ∙ length-replicate {A = ℕ} 577 0,
   length-sets (replicate 4608 0) 0 (joined (map number_word) c.clauses) ∙ length-replicate {A = ℕ} 4608 0,
 )
 
+-- a refusal has the number that the definition gives
+pub refusal-number : (text : List ℕ) (q : ℕ) → read_cnf text ≡ no q → question_number (text_question q) ≡ q
+refusal-number text q e = elim (cnf-refusals text q e) [ inl a ↦ rw a | inr b ↦ rw b ]
+
 -- the arrays give the clauses back
-pub cnf-held : (c : Cnf) → CnfLimits c → held_clauses (cnf_read (yes c)) ≡ c.clauses
-unfolding held_clauses held_count cnf_read
+pub cnf-held : (c : dimacs.Cnf) → CnfLimits c → held_clauses (cnf_read (yes c)) ≡ c.clauses
+unfolding held_clauses cnf_read
 cnf-held c limits =
     let few = few_words c.clauses limits.literals in
     let room : length (starts_from 0 c.clauses) ≤ 577 = omega (arith, limits.clauses, starts-length 0 c.clauses) in

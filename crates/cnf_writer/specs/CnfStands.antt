@@ -1,4 +1,4 @@
--- The text made from the arrays of a search that has ended is the text of its state's clauses: by words the literals, by places the goal
+-- The text made of what is left of a search is the text of its state's clauses: by words the literals, by places the goal
 -- clauses and then the log. Assumes nothing.
 use Rattle.std.specs.Prelude.{ℕ, ◌+◌, ◌≡◌, not, length}
 use Rattle.std.proofs.Math.Path.{refl, ap}
@@ -15,10 +15,9 @@ use Rattle.theory.specs.ListLaws.{joined-append}
 use Rattle.theory.specs.PlaceLaws.{up_from-append}
 use Rattle.encoding.specs.Encoding.{literal_word, clause_words}
 use Rattle.encoding.specs.Signs.{number_of, number_word_lem}
-use Rattle.encoding.specs.Values.{Values}
 use Rattle.units.specs.Units.{clause_at}
 use Rattle.machine.specs.Finished.{Finished}
-use Rattle.machine.specs.declared.Ended.{Ended}
+use Rattle.machine.specs.declared.Searched.{Searched}
 use Rattle.listing.specs.JoinedLaws.{joined-map, joined-places-from}
 use Rattle.cnf_writer.specs.CnfBytes.{word_text, line_text, cnf_bytes, Exportable}
 
@@ -44,41 +43,40 @@ module _ (table : List Atom) where
   unfolding line_text clause_text
   line-stands starts literals n c e = cc (words-stand c)
 
-module _ (p : Problem) (budget : ℕ) (s : State) (ended : Ended) (given : ℕ) (arities starts literals numbers table : List ℕ) (values : Values)
-    (h : Finished p budget s ended given arities starts literals numbers table values) where
+module _ (p : Problem) (budget : ℕ) (s : State) (x : Searched) (h : Finished p budget s x) where
   -- ── the goal clauses and then the log ──
 
-  goals-stand : joined (line_text starts literals) (up_from 0 (length p.clauses)) ≡ joined (clause_line s.table) p.clauses
+  goals-stand : joined (line_text x.store.starts x.store.literals) (up_from 0 (length p.clauses)) ≡ joined (clause_line s.table) p.clauses
   goals-stand =
-      joined-places-from (line_text starts literals) (clause_line s.table) 0 p.clauses
-      (λ n c e. let z : 0 + n ≡ n = omega arith in rw z (line-stands s.table starts literals n c (h.stands.log.stand.goal n c e)))
+      joined-places-from (line_text x.store.starts x.store.literals) (clause_line s.table) 0 p.clauses
+      (λ n c e. let z : 0 + n ≡ n = omega arith in rw z (line-stands s.table x.store.starts x.store.literals n c (h.stands.log.stand.goal n c e)))
 
-  log-stands : joined (line_text starts literals) (up_from (length p.clauses) (length s.log)) ≡ joined (clause_line s.table) (map clause_of s.log)
+  log-stands : joined (line_text x.store.starts x.store.literals) (up_from (length p.clauses) (length s.log)) ≡ joined (clause_line s.table) (map clause_of s.log)
   log-stands =
-      joined-places-from (line_text starts literals) (λ g. clause_line s.table (clause_of g)) (length p.clauses) s.log
-      (λ n g e. line-stands s.table starts literals (length p.clauses + n) (clause_of g) (h.stands.log.stand.logged n g e))
+      joined-places-from (line_text x.store.starts x.store.literals) (λ g. clause_line s.table (clause_of g)) (length p.clauses) s.log
+      (λ n g e. line-stands s.table x.store.starts x.store.literals (length p.clauses + n) (clause_of g) (h.stands.log.stand.logged n g e))
       ∙ sym (joined-map (clause_line s.table) clause_of s.log)
 
-  lines-stand : joined (line_text starts literals) (up_from 0 ended.run.clauses)
+  lines-stand : joined (line_text x.store.starts x.store.literals) (up_from 0 x.ended.run.clauses)
       ≡ joined clause_text (map (map (table_number s.table)) (clauses_of p.clauses s))
   lines-stand =
       let first = length p.clauses in
       let behind = length s.log in
       let z : 0 + first ≡ first = omega arith in
       let all = clauses_of p.clauses s in
-      rw (h.stands.log.clauses, up_from-append 0 first behind, z, joined-append (line_text starts literals) (up_from 0 first) (up_from first behind), goals-stand, log-stands)
+      rw (h.stands.log.clauses, up_from-append 0 first behind, z, joined-append (line_text x.store.starts x.store.literals) (up_from 0 first) (up_from first behind), goals-stand, log-stands)
       (sym (joined-map clause_text (map (table_number s.table)) all ∙ joined-append (clause_line s.table) p.clauses (map clause_of s.log)))
 
-  count : ended.run.clauses ≡ length (map (map (table_number s.table)) (clauses_of p.clauses s))
+  count : x.ended.run.clauses ≡ length (map (map (table_number s.table)) (clauses_of p.clauses s))
   count = rw (length-map, length-append, length-map) h.stands.log.clauses
 
   -- the arrays' text is the state's
-  pub cnf-stands : cnf_bytes ended.run starts literals ≡ cnf_text (cnf_of p.clauses s)
+  pub cnf-stands : cnf_bytes x.ended.run x.store.starts x.store.literals ≡ cnf_text (cnf_of p.clauses s)
   unfolding cnf_bytes cnf_text cnf_of
   cnf-stands = cc (h.stands.log.atoms, count, lines-stand)
 
   -- and what the code needs for its reads holds
-  pub finished-exportable : Exportable ended.run starts literals
+  pub finished-exportable : Exportable x.ended.run x.store.starts x.store.literals
   finished-exportable =
       record {
         limit = h.stands.log.fit.limit;

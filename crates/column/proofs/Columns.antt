@@ -1,30 +1,23 @@
--- The loops that write a column from the right, and that blanks, sign and digits put so are the bytes of a field, for any width. Assumes nothing.
-use Prim.Native.Nat.{ℕ, suc, ◌+◌, ◌-◌, ◌/◌, ◌%◌, ◌<◌, ◌≤◌}
-use mathlib.Core.Path.{◌≡◌, refl, ap, ◌∙◌}
-use mathlib.Core.Bool.{true, false}
-use mathlib.Core.List.{List, [], ◌∷◌, ◌++◌, append_assoc}
-use native.Mathlib.Omega.{arith}
-use lib.ListN.{length, set, replicate, length-append, length-replicate, replicate-append-replicate}
-use lib.Seq.{sets}
-use Rattle.definitions.specs.Listing.{Field, decimals, signed_decimals, right_justified, field_bytes}
+-- The loop that writes digits from the right, and that blanks, sign and digits put so are the bytes of a field, for any width. Assumes nothing.
+use Rattle.std.proofs.Common.{◌≡◌, refl, sym, ap, ◌∙◌, ℕ, suc, ◌+◌, ◌-◌, ◌/◌, ◌%◌, ◌<◌, ◌≤◌, Bool, true, false, List, [], ◌∷◌, ◌++◌, length, set, take, drop, replicate, length-append, append-nil, drop_of_length-le, arith}
+use Rattle.std.proofs.lemmas.List.Edits.{sets, sets-eq}
+use Rattle.std.proofs.Math.Seq.{length-take-le, drop-append_seam}
+use Rattle.definitions.specs.Sheet.{Number}
+use Rattle.definitions.specs.Listing.{decimals, signed_decimals, right_justified, field_bytes}
 use Rattle.column.specs.Sets.{sets-before}
 use Rattle.column.specs.Places.{sign, PutLast}
 use Rattle.column.specs.Widths.{decimals-last, decimals-more, signed_parts}
 
-module _ (room : List ℕ) (at : ℕ) where
-  -- what is put into the places that are left stands in front of what is there
-  pub put_front : {places left : ℕ} {bytes after : List ℕ} (front : List ℕ) → PutLast room at places bytes left after → length front ≡ left → sets after at front ≡ sets room at (front ++ bytes)
-  put_front front put e = rw (put.stored, ← e) (sets-before room at front _)
-
+module _ (field : List ℕ) where
   -- a place more before those that are left
-  pub put-more : {places left : ℕ} {front after : List ℕ} (b : ℕ) → PutLast (set room (at + places) b) at places front left after → PutLast room at (suc places) (front ++ (b ∷ [])) left after
+  put-more : {places left : ℕ} {front after : List ℕ} (b : ℕ) → PutLast (set field places b) places front left after → PutLast field (suc places) (front ++ (b ∷ [])) left after
   put-more {places} {left} {front} b put = record { count = rw length-append (omega arith); stored = put.stored ∙ stored }
     where
-      stored : sets (set room (at + places) b) (at + left) front ≡ sets room (at + left) (front ++ (b ∷ []))
-      stored = let e : at + places ≡ (at + left) + length front = omega arith in rw e (sets-before room (at + left) front (b ∷ []))
+      stored : sets (set field places b) left front ≡ sets field left (front ++ (b ∷ []))
+      stored = let e : places ≡ left + length front = omega arith in rw e (sets-before field left front (b ∷ []))
 
   -- the last digit of a number that has no other
-  pub digits-hit : (left place n : ℕ) → left ≡ suc place → n < 10 → PutLast room at left (decimals left n) place (set room (at + place) (48 + n % 10))
+  pub digits-hit : (left place n : ℕ) → left ≡ suc place → n < 10 → PutLast field left (decimals left n) place (set field place (48 + n % 10))
   digits-hit left place n e h =
       let m : n % 10 ≡ n = omega arith in
       rw (e, decimals-last place n h) (record { count = omega arith; stored = rw m })
@@ -32,42 +25,56 @@ module _ (room : List ℕ) (at : ℕ) where
   -- the last digit of a number, with those before it still to be put
   pub digits-turn :
       (left place n next : ℕ) → left ≡ suc place → 10 ≤ n → next ≡ n / 10 → {rest : ℕ} {after : List ℕ}
-      → PutLast (set room (at + place) (48 + n % 10)) at place (decimals place next) rest after
-      → PutLast room at left (decimals left n) rest after
+      → PutLast (set field place (48 + n % 10)) place (decimals place next) rest after
+      → PutLast field left (decimals left n) rest after
   digits-turn left place n next e h q put = rw (e, decimals-more place n h, ← q) (put-more (48 + n % 10) put)
 
   -- no place is left
-  pub digits-end : (left n : ℕ) → left ≡ 0 → PutLast room at left (decimals left n) left room
+  pub digits-end : (left n : ℕ) → left ≡ 0 → PutLast field left (decimals left n) 0 field
   unfolding decimals
   digits-end left n e = rw e (record { count = refl; stored = refl })
 
-  -- a blank more, with those before it still to be put
-  pub blanks-turn : (left place : ℕ) → left ≡ suc place → sets (set room (at + place) 32) at (replicate place 32) ≡ sets room at (replicate left 32)
-  blanks-turn left place e =
-      let s : place + 1 ≡ left = omega arith in
-      let put : PutLast room at (suc place) (32 ∷ []) place (set room (at + place) 32) = record { count = omega arith; stored = refl } in
-      put_front (replicate place 32) put (length-replicate place 32) ∙ rw (replicate-append-replicate {A = ℕ} place 1 32, s)
+-- ── digits, sign and blanks ──
 
-  pub sign-put : (left place : ℕ) → left ≡ suc place → PutLast room at left (sign true) place (set room (at + place) 45)
-  unfolding sign
-  sign-put left place e = record { count = omega arith; stored = refl }
+module _ (field : List ℕ) (negative : Bool) (size : ℕ) where
+  abbrev number : Number
+  number = record { negative = negative; size = size }
 
-  pub no-sign-put : (left : ℕ) → PutLast room at left (sign false) left room
-  unfolding sign
-  no-sign-put left = record { count = omega arith; stored = refl }
+  module _ (fits : length (signed_decimals (length field) number) ≤ length field)
+      {left : ℕ} {digits : List ℕ} (put : PutLast field (length field) (decimals (length field) size) left digits) where
+    -- a number that fits leaves a place for its sign
+    pub sign_fits : length (sign negative) ≤ left
+    sign_fits = omega (arith, put.count, ap length (signed_parts (length field) number), length-append (sign negative) (decimals (length field) size))
 
-module _ (f : Field) {room : List ℕ} {at left : ℕ} {digits : List ℕ} (first : PutLast room at f.width (decimals f.width f.number.size) left digits) where
-  -- a number that fits leaves a place for its sign
-  pub sign_fits : length (signed_decimals f.width f.number) ≤ f.width → length (sign f.number.negative) ≤ left
-  sign_fits h = omega (arith, first.count, simp length-append at (ap length (signed_parts f.width f.number)))
+    with-sign : {blanks : ℕ} {signed : List ℕ} → blanks + length (sign negative) ≡ left → signed ≡ sets digits blanks (sign negative)
+        → PutLast field (length field) (signed_decimals (length field) number) blanks signed
+    with-sign {blanks} e s =
+        record {
+          count = rw (signed_parts (length field) number, length-append) (omega (arith, put.count));
+          stored = s ∙ rw (put.stored, ← e, signed_parts (length field) number) (sets-before field blanks (sign negative) (decimals (length field) size));
+        }
 
-  -- digits, sign and blanks, put from the right, are the bytes of the field
-  pub field_put : {blanks : ℕ} {signed : List ℕ} → PutLast digits at left (sign f.number.negative) blanks signed → sets signed at (replicate blanks 32) ≡ sets room at (field_bytes f)
+    -- a minus, or none
+    pub sign-put : negative ≡ true → PutLast field (length field) (signed_decimals (length field) number) (left - 1) (set digits (left - 1) 45)
+    unfolding sign
+    sign-put e = with-sign (rw e (omega (arith, rw e at sign_fits))) (rw e)
+
+    pub no-sign-put : negative ≡ false → PutLast field (length field) (signed_decimals (length field) number) left digits
+    unfolding sign
+    no-sign-put e = with-sign (rw e (omega arith)) (rw e)
+
+    pub place-for-sign : negative ≡ true → 1 ≤ left
+    unfolding sign
+    place-for-sign e = rw e at sign_fits
+
+  -- a number with blanks before it is its field
+  pub blanks-before : {blanks : ℕ} {signed : List ℕ} → PutLast field (length field) (signed_decimals (length field) number) blanks signed
+      → replicate blanks 32 ++ drop blanks signed ≡ field_bytes (record { width = length field; number = number })
   unfolding field_bytes right_justified
-  field_put {blanks} second =
-      let number : List ℕ = sign f.number.negative ++ decimals f.width f.number.size in
-      let n : length (replicate {A = ℕ} blanks 32 ++ sign f.number.negative) ≡ left = rw (length-append, length-replicate) second.count in
-      let e : f.width - length number ≡ blanks = omega (arith, length-append (sign f.number.negative) (decimals f.width f.number.size)) in
-      put_front digits at (replicate blanks 32) second (length-replicate blanks 32)
-      ∙ put_front room at (replicate blanks 32 ++ sign f.number.negative) first n
-      ∙ rw (signed_parts f.width f.number, e, append_assoc)
+  blanks-before {blanks} put =
+      let bytes = signed_decimals (length field) number in
+      let front : blanks ≡ length (take blanks field) = sym (length-take-le blanks field (omega (arith, put.count))) in
+      let none : drop (blanks + length bytes) field ≡ [] = drop_of_length-le field (omega (arith, put.count)) in
+      let before : length field - length bytes ≡ blanks = omega (arith, put.count) in
+      rw (put.stored, sets-eq bytes field blanks (omega (arith, put.count)), none, append-nil, before)
+      (ap (λ l. replicate blanks 32 ++ l) (ap (λ n. drop n (take blanks field ++ bytes)) front ∙ drop-append_seam (take blanks field) bytes))

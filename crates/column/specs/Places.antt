@@ -7,7 +7,7 @@ unfoldable pub sign : Bool → List ℕ
 sign true = 45 ∷ []
 sign false = []
 
--- the bytes were put into the last of the places from `at` on, and so many places are left before them
-pub record PutLast (room : List ℕ) (at places : ℕ) (bytes : List ℕ) (left : ℕ) (after : List ℕ) : Type 0 where
+-- the bytes were put into the last of so many places, and so many are left before them
+pub record PutLast (field : List ℕ) (places : ℕ) (bytes : List ℕ) (left : ℕ) (after : List ℕ) : Type 0 where
   pub count : left + length bytes ≡ places
-  pub stored : after ≡ sets room (at + left) bytes
+  pub stored : after ≡ sets field left bytes

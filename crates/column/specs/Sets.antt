@@ -1,9 +1,10 @@
 -- Laws of overwriting a part of a list, `sets` of lib.Seq: runs that touch are one, and a run at the start replaces the front. Assumes nothing.
-use Rattle.std.specs.Prelude.{ℕ, suc, ◌+◌, ◌<◌, ◌≤◌, ◌≡◌, refl, List, [], ◌∷◌, ◌++◌, length, set, take, drop}
-use Rattle.std.proofs.Common.{◌∙◌, arith}
+use Rattle.std.specs.Prelude.{ℕ, suc, ◌+◌, ◌-◌, ◌<◌, ◌≤◌, ◌≡◌, refl, List, [], ◌∷◌, ◌++◌, length, set, take, drop}
+use Rattle.std.proofs.Common.{◌∙◌, append_assoc, arith}
 use Rattle.std.proofs.lemmas.List.Edits.{sets, sets-eq}
-use Rattle.std.proofs.lemmas.List.{set_comm}
-use Rattle.std.proofs.Math.Seq.{take-append_seam}
+use Rattle.std.proofs.lemmas.List.{set_comm, drop-drop, length-drop}
+use Rattle.std.proofs.Math.Seq.{take-append_seam, length-take-le}
+use borrow.Rule.Slice.PartMut.{put_mid}
 
 module _ {A : Type 0} where
   -- two runs, the second behind the first, are one
@@ -37,3 +38,15 @@ module _ {A : Type 0} where
 
     pub sets-taken : take (length bytes) (sets l 0 bytes) ≡ bytes
     sets-taken = rw sets-front (take-append_seam bytes (drop (length bytes) l))
+
+  -- a part of a list in whose place other elements stand
+  pub sets-part : (l bytes part : List A) (at size : ℕ) → size ≡ length bytes → part ≡ bytes → at + length bytes ≤ length l
+      → put_mid at (at + size - at) l part ≡ sets l at bytes
+  sets-part l bytes part at size s e fits =
+      let k : at + length bytes - at ≡ length bytes = omega arith in
+      rw (s, e, k, drop-drop (length bytes) at l, sets-eq bytes l at fits, append_assoc)
+
+  pub part-length : (l bytes : List A) (at size : ℕ) → size ≡ length bytes → at + length bytes ≤ length l → length (take (at + size - at) (drop at l)) ≡ length bytes
+  part-length l bytes at size s fits =
+      let k : at + size - at ≡ length bytes = omega arith in
+      rw k (length-take-le (length bytes) (drop at l) (omega (arith, length-drop at l)))

@@ -1,14 +1,14 @@
 // One decimal column: read from four bytes, written into four or twelve.
 #![tactic(auto)]
 
-ghost use Rattle.std.specs.Prelude.{◌+◌, ◌<◌, ◌≤◌, ◌≡◌, true, [], ◌∷◌, length, take, drop, replicate, IfErr};
+ghost use Rattle.std.specs.Prelude.{◌+◌, ◌<◌, ◌≤◌, ◌≡◌, true, [], ◌∷◌, length, take, drop, IfErr};
 ghost use Rattle.std.proofs.lemmas.List.Edits.{sets};
 ghost use Rattle.definitions.specs.declared.Question.TheVariants.{Columns};
 ghost use Rattle.definitions.specs.Sheet.{digits, natural, decimal};
 ghost use Rattle.definitions.specs.Listing.{decimals, signed_decimals, field_bytes, narrow, wide};
 ghost use Rattle.column.specs.Column.{column_of, size_of};
 ghost use Rattle.column.specs.Scan.{read_on, size_before, ReadAs};
-ghost use Rattle.column.specs.Places.{sign, PutLast};
+ghost use Rattle.column.specs.Places.{PutLast};
 
 use definitions::Question;
 
@@ -112,68 +112,41 @@ pub fn read_column(s: &[u8], at: usize) -> Result<Option<Number>, Question>
     finish(scan)
 }
 
-// The digits of `size` in the last of the places from `at` on; how many places are left before them.
-pub fn put_digits(room: &mut [u8], at: usize, width: usize, size: u64) -> usize
-    requires { at + width ≤ length room.old }
-    ensures { PutLast room.old at width (decimals width size) result room.new }
+// The digits of a number in the last places of a field: how many places are left before them.
+pub fn put_digits(field: &mut [u8], size: u64) -> usize
+    ensures { PutLast field.old (length field.old) (decimals (length field.old) size) result field.new }
 {
-    let mut left = width;
     let mut n = size;
-    while 0 < left {
-        left -= 1;
-        let place = at + left;
-        room[place] = 48 + (n % 10) as u8;
+    for left in (0..field.len()).rev() {
+        field[left] = b'0' + (n % 10) as u8;
         if n < 10 {
             return left;
         }
         n /= 10;
     }
-    left
+    0
 }
 
-// The sign in the last of the places from `at` on, if there is one; how many places are left before it.
-fn put_sign(room: &mut [u8], at: usize, left: usize, negative: bool) -> usize
-    requires { (at + left ≤ length room.old) × (length (sign negative) ≤ left) }
-    ensures { PutLast room.old at left (sign negative) result room.new }
+// A column of any width, for a number that fits: from the right, its digits, its sign and blanks.
+fn put_column(field: &mut [u8], negative: bool, size: u64)
+    requires { length (signed_decimals (length field.old) (record { negative = negative; size = size })) ≤ length field.old }
+    ensures { field.new ≡ field_bytes (record { width = length field.old; number = record { negative = negative; size = size } }) }
 {
+    let mut left = put_digits(field, size);
     if negative {
-        let last = left - 1;
-        let place = at + last;
-        room[place] = 45;
-        return last;
-    }
-    left
-}
-
-// So many blanks from `at` on.
-fn put_blanks(room: &mut [u8], at: usize, count: usize)
-    requires { at + count ≤ length room.old }
-    ensures { room.new ≡ sets room.old at (replicate count 32) }
-{
-    let mut left = count;
-    while 0 < left {
         left -= 1;
-        let place = at + left;
-        room[place] = 32;
+        field[left] = b'-';
     }
+    field[..left].fill(b' ');
 }
 
-// One column of any width, for a number that fits: from the right, its digits, its sign and blanks.
-fn put_column(room: &mut [u8], at: usize, width: usize, negative: bool, size: u64)
-    requires { (at + width ≤ length room.old) × (length (signed_decimals width (record { negative = negative; size = size })) ≤ width) }
-    ensures { room.new ≡ sets room.old at (field_bytes (record { width = width; number = record { negative = negative; size = size } })) }
-{
-    let signed = put_digits(room, at, width, size);
-    let blank = put_sign(room, at, signed, negative);
-    put_blanks(room, at, blank);
-}
-
-// One column of 4 bytes. A sign takes a place from the digits; of a longer number the last digits stand.
+// One column of 4 bytes. A sign takes a place from the digits; of a longer number the last digits stand. It is lent the room with the place,
+// not the column's slice, since its contract says that nothing else of the room changes; so is the next one.
 pub fn put_narrow(room: &mut [u8], at: usize, negative: bool, size: u16)
     requires { (at + 4 ≤ length room.old) × (negative ≡ true → size < 1000) }
     ensures { room.new ≡ sets room.old at (field_bytes (narrow (record { negative = negative; size = size }))) }
 {
-    put_column(room, at, 4, negative, size as u64);
+    put_column(&mut room[at..at + 4], negative, u64::from(size));
 }
 
 // One column of 12 bytes.
@@ -181,5 +154,5 @@ pub fn put_wide(room: &mut [u8], at: usize, n: u64)
     requires { at + 12 ≤ length room.old }
     ensures { room.new ≡ sets room.old at (field_bytes (wide n)) }
 {
-    put_column(room, at, 12, false, n);
+    put_column(&mut room[at..at + 12], false, n);
 }

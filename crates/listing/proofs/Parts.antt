@@ -1,25 +1,25 @@
 -- The bytes of the listing in parts: what one call puts, and what is left to the calls behind it. Assumes nothing.
-use Prim.Native.Nat.{ℕ, ◌+◌, ◌-◌, ◌*◌, ◌/◌, ◌%◌, ◌≤◌, ◌<◌}
-use mathlib.Core.Path.{◌≡◌, refl, sym, ap, ◌∙◌}
-use mathlib.Core.Bool.{Bool, true, false, false≢true}
-use mathlib.Core.List.{List, [], ◌∷◌, ◌++◌, map, append_assoc, map-append}
-use native.Mathlib.Omega.{arith}
-use lib.Dec.{eqb}
-use lib.ListN.{length, get_or, take, drop, length-drop}
-use lib.Seq.{length-take-le}
-use Rattle.encoding.specs.ArrayLaws.{get_d-rising, part-cons, part-nil}
+use Prim.Native.Nat.{ℕ, suc, ◌+◌, ◌-◌, ◌*◌, ◌/◌, ◌%◌, ◌≤◌, ◌<◌}
+use Rattle.std.specs.Prelude.{◌≡◌, refl, Bool, true, false, eqb, length, get_or, drop}
+use Rattle.std.proofs.Common.{ap, ◌∙◌, arith, append_assoc}
+use Rattle.std.proofs.lemmas.List.{get_or-take, get_or-drop, length-take}
+use Rattle.std.proofs.Math.Seq.{drop-cons}
+use mathlib.Core.List.{List, [], ◌∷◌, ◌++◌, map, map-append}
+use lib.ListN.{drop_of_length-le}
+use Rattle.encoding.specs.ArrayLaws.{get_d-rising}
 use Rattle.encoding.specs.CountLaws.{up_from-more, up_from-none}
-use Rattle.encoding.specs.Values.{Values, unset_at, false_word}
+use Rattle.encoding.specs.Values.{unset_at, false_word}
 use Rattle.definitions.specs.Lists.{joined, up_from}
 use Rattle.definitions.specs.Sheet.{Number, plus}
-use Rattle.definitions.specs.Listing.{field_bytes, line_bytes, narrow, wide, answer_number}
+use Rattle.definitions.specs.Listing.{field_bytes, line_bytes, narrow, wide, answer_number, refusal_line}
 use Rattle.definitions.specs.declared.Verdict.{Verdict}
 use Rattle.definitions.specs.declared.Verdict.TheVariants.{Unsat, Unknown, Spent, Full}
 use Rattle.theory.specs.ListLaws.{joined-append}
 use Rattle.units.specs.Units.{clause_at}
-use Rattle.machine.specs.declared.Run.{Run}
+use Rattle.machine.specs.declared.Searched.{Searched}
 use Rattle.listing.specs.Puts.{Parts}
-use Rattle.listing.specs.Lines.{column_bytes, row_bytes, code_symbol, code_constant, constant_number, code_numbers, word_numbers, logged_numbers, logged_bytes, log_bytes, setting_bytes, settings_bytes, count_bytes, listing_bytes, ClausesListable}
+use Rattle.listing.specs.Lines.{column_bytes, row_bytes, code_symbol, code_constant, constant_number, code_numbers, word_numbers, logged_numbers, logged_bytes, setting_bytes, settings_bytes, count_bytes, listing_bytes}
+use Rattle.listing.specs.Left.{words_columns, logged_of, log_of, setting_of, settings_of, counts_of, listing_of, Listable}
 
 -- ── columns ──
 
@@ -31,22 +31,14 @@ column-append a b = ap (joined field_bytes) (map-append narrow a b) ∙ joined-a
 abbrev pub unsigned : ℕ → Number
 unsigned n = record { negative = false; size = n }
 
-pub no_sign : {n : ℕ} → (unsigned n).negative ≡ true → n < 1000
-no_sign e = absurd (false≢true e)
-
--- the first of several columns
-module _ {size n : ℕ} (e : size ≡ n) (ns : List Number) where
-  pub columns-first : (more : List ℕ) → Parts (column_bytes (plus n ∷ ns) ++ more) (column_bytes (unsigned size ∷ [])) (column_bytes ns ++ more)
-  unfolding plus
-  columns-first more = record { whole = rw (e, column-append (unsigned n ∷ []) ns) (append_assoc (column_bytes (unsigned n ∷ [])) (column_bytes ns) more) }
-
-  pub row_first : Parts (row_bytes (plus n ∷ ns)) (column_bytes (unsigned size ∷ [])) (row_bytes ns)
-  unfolding row_bytes line_bytes column_bytes
-  row_first = columns-first (10 ∷ [])
-
 pub row-parts : (ns : List Number) → Parts (row_bytes ns) (column_bytes ns) (10 ∷ [])
 unfolding row_bytes line_bytes column_bytes
 row-parts ns = record { whole = refl }
+
+-- numbers with no sign, and what follows them in a line
+row-first : (sizes : List ℕ) (ns : List Number) → Parts (row_bytes (map plus sizes ++ ns)) (column_bytes (map plus sizes)) (column_bytes ns ++ (10 ∷ []))
+row-first sizes ns =
+    record { whole = (row-parts (map plus sizes ++ ns)).whole ∙ rw (column-append (map plus sizes) ns) (append_assoc (column_bytes (map plus sizes)) (column_bytes ns) (10 ∷ [])) }
 
 -- ── the line of kind 5 ──
 
@@ -54,17 +46,13 @@ row-parts ns = record { whole = refl }
 abbrev pub counts_behind : ℕ → ℕ → List ℕ
 counts_behind decisions conflicts = field_bytes (wide decisions) ++ (field_bytes (wide conflicts) ++ (10 ∷ []))
 
-pub counts-first : (v : Verdict) (atoms logged decisions conflicts : ℕ)
+pub counts-first : (x : Searched) {answer decisions : ℕ} → answer ≡ answer_number x.ended.verdict → decisions ≡ x.ended.run.decisions
     → Parts
-    (count_bytes v atoms logged decisions conflicts)
-    (column_bytes (unsigned 5 ∷ []))
-    (column_bytes (plus (answer_number v) ∷ plus atoms ∷ plus logged ∷ []) ++ counts_behind decisions conflicts)
+    (counts_of x)
+    (column_bytes (map plus (5 ∷ answer ∷ x.ended.run.atoms ∷ (x.ended.run.clauses - x.given) ∷ [])))
+    (counts_behind decisions x.ended.run.conflicts)
 unfolding count_bytes
-counts-first v atoms logged decisions conflicts = columns-first {n = 5} refl (plus (answer_number v) ∷ plus atoms ∷ plus logged ∷ []) (counts_behind decisions conflicts)
-
-pub counts-wide : (first more : List ℕ) → Parts (column_bytes [] ++ (first ++ more)) first more
-unfolding column_bytes joined
-counts-wide first more = record { whole = refl }
+counts-first x e f = record { whole = rw (e, f) }
 
 -- ── what a loop puts: its first turn, and the turns behind it ──
 
@@ -92,98 +80,79 @@ unfolding code_numbers code_symbol
 literal-first arities negative code {arity} e = record { whole = rw (← e) (column-append (record { negative = negative; size = code / 32768 % 16 + 1 } ∷ []) (map (constant_number code) (up_from 0 arity))) }
 
 -- the words of a clause from the i-th place on
-module _ (arities table words : List ℕ) (end i : ℕ) where
-  pub words-first : i < end → end ≤ length words
+module _ (arities table words : List ℕ) (i : ℕ) where
+  pub words-first : {position : ℕ} → position ≡ get_or words i 0 / 2 → i < length words
       → Parts
-      (column_bytes (joined (word_numbers arities table) (take (end - i) (drop i words))))
-      (column_bytes (code_numbers arities (eqb (get_or words i 0 % 2) 1) (get_or table (get_or words i 0 / 2) 0)))
-      (column_bytes (joined (word_numbers arities table) (take (end - (i + 1)) (drop (i + 1) words))))
+      (column_bytes (joined (word_numbers arities table) (drop i words)))
+      (column_bytes (code_numbers arities (eqb (get_or words i 0 % 2) 1) (get_or table position 0)))
+      (column_bytes (joined (word_numbers arities table) (drop (i + 1) words)))
   unfolding joined word_numbers
-  words-first h fits =
-      record {
-        whole = rw (part-cons words end i h fits)
-            (column-append (word_numbers arities table (get_or words i 0)) (joined (word_numbers arities table) (take (end - (i + 1)) (drop (i + 1) words))));
-      }
+  words-first p h =
+      let e : i + 1 ≡ suc i = omega arith in
+      record { whole = rw (p, e, drop-cons words i 0 h) (column-append (word_numbers arities table (get_or words i 0)) (joined (word_numbers arities table) (drop (suc i) words))) }
 
-  pub words-none : end ≤ i → column_bytes (joined (word_numbers arities table) (take (end - i) (drop i words))) ≡ []
+  pub words-none : length words ≤ i → column_bytes (joined (word_numbers arities table) (drop i words)) ≡ []
   unfolding joined column_bytes
-  words-none h = rw (part-nil words end i h)
+  words-none h = rw (drop_of_length-le words h)
 
 -- ── the lines of kind 6 ──
 
--- the first of listable clauses are listable
-pub listable-first : {given clauses : ℕ} {starts literals : List ℕ} → ClausesListable given clauses starts literals
-    → (first : ℕ) → given ≤ first → first ≤ clauses → ClausesListable given first starts literals
-listable-first {given} {clauses} {starts} f first g h =
-    record {
-      some = g;
-      few = omega (arith, f.few);
-      limit = omega (arith, f.limit);
-      rising = λ c l. f.rising c (omega arith);
-      inside = λ c l. f.inside c (omega arith);
-      words = λ i l. f.words i (omega (arith, get_d-rising starts clauses f.rising first h));
-    }
-
-module _ (starts literals : List ℕ) (c : ℕ) where
-  -- how many words a clause has
-  pub clause-count : get_or starts c 0 ≤ get_or starts (c + 1) 0 → get_or starts (c + 1) 0 ≤ length literals
-      → get_or starts (c + 1) 0 - get_or starts c 0 ≡ length (clause_at starts literals c)
+module _ (x : Searched) (n : ℕ) (listable : Listable x) (inside : n < x.ended.run.clauses - x.given) where
+  -- its words are small
+  pub words-small : (words : List ℕ) → words ≡ clause_at x.store.starts x.store.literals (x.given + n) → (i : ℕ) → i < length words → get_or words i 0 < 512
   unfolding clause_at
-  clause-count h fits =
-      sym (length-take-le (get_or starts (c + 1) 0 - get_or starts c 0) (drop (get_or starts c 0) literals) (omega (arith, length-drop (get_or starts c 0) literals)))
+  words-small words e i h =
+      let from = get_or x.store.starts (x.given + n) 0 in
+      let end = get_or x.store.starts (x.given + n + 1) 0 in
+      let part : i < end - from = omega (arith, rw e at h, length-take (end - from) (drop from x.store.literals)) in
+      let up = get_d-rising x.store.starts x.ended.run.clauses listable.clauses.rising (x.given + n + 1) (omega arith) in
+      rw (e, get_or-take (end - from) (drop from x.store.literals) i 0 part, get_or-drop from x.store.literals i 0)
+      (listable.clauses.words (from + i) (omega (arith, up)))
 
-  -- its words, and LF behind them
-  pub clause-end : (arities table : List ℕ)
-      → Parts
-      (row_bytes (joined (word_numbers arities table) (clause_at starts literals c)))
-      (column_bytes (joined (word_numbers arities table) (take (get_or starts (c + 1) 0 - get_or starts c 0) (drop (get_or starts c 0) literals))))
-      (10 ∷ [])
-  unfolding clause_at
-  clause-end arities table = row-parts (joined (word_numbers arities table) (take (get_or starts (c + 1) 0 - get_or starts c 0) (drop (get_or starts c 0) literals)))
-
-pub logged-first : (given : ℕ) (arities starts literals numbers table : List ℕ) (n : ℕ)
-    → Parts
-    (logged_bytes given arities starts literals numbers table n)
-    (column_bytes (unsigned 6 ∷ []))
-    (row_bytes (plus (get_or numbers n 0) ∷ plus (length (clause_at starts literals (given + n))) ∷ joined (word_numbers arities table) (clause_at starts literals (given + n))))
-unfolding logged_bytes logged_numbers
-logged-first given arities starts literals numbers table n =
-    row_first {n = 6} refl (plus (get_or numbers n 0) ∷ plus (length (clause_at starts literals (given + n))) ∷ joined (word_numbers arities table) (clause_at starts literals (given + n)))
+  pub logged-first : (rule count : ℕ) (words : List ℕ) → words ≡ clause_at x.store.starts x.store.literals (x.given + n)
+      → rule ≡ get_or x.store.numbers n 0 → count ≡ length words
+      → Parts (logged_of x n) (column_bytes (map plus (6 ∷ rule ∷ count ∷ []))) (words_columns x words ++ (10 ∷ []))
+  unfolding logged_bytes logged_numbers
+  logged-first rule count words e r k =
+      rw (r, k, e) (row-first (6 ∷ get_or x.store.numbers n 0 ∷ length (clause_at x.store.starts x.store.literals (x.given + n)) ∷ []) (joined (word_numbers x.arities x.codes) (clause_at x.store.starts x.store.literals (x.given + n))))
 
 -- ── the lines of kind 7 ──
 
-module _ (arities table : List ℕ) (values : Values) (i : ℕ) where
-  pub setting-unset : {b : Bool} → b ≡ unset_at values i → b ≡ true → setting_bytes arities table values i ≡ []
+module _ (x : Searched) (i : ℕ) where
+  pub setting-unset : {b : Bool} → b ≡ unset_at x.values i → b ≡ true → setting_of x i ≡ []
   unfolding setting_bytes
   setting-unset u e = cc
 
-  pub setting-set : {b negative : Bool} → b ≡ unset_at values i → b ≡ false → negative ≡ false_word values (2 * i) → row_bytes (plus 7 ∷ code_numbers arities negative (get_or table i 0)) ≡ setting_bytes arities table values i
-  unfolding setting_bytes
-  setting-set u e f = cc
+  module _ {b negative : Bool} (u : b ≡ unset_at x.values i) (e : b ≡ false) (f : negative ≡ false_word x.values (2 * i)) where
+    setting-set : row_bytes (plus 7 ∷ code_numbers x.arities negative (get_or x.codes i 0)) ≡ setting_of x i
+    unfolding setting_bytes
+    setting-set = cc
 
-module _ (v : Verdict) (atoms : ℕ) (arities table : List ℕ) (values : Values) where
-  pub settings-unsat : v ≡ Unsat → settings_bytes v atoms arities table values ≡ []
-  unfolding settings_bytes
-  settings-unsat e = rw e
+    pub setting-first : Parts (setting_of x i) (column_bytes (map plus (7 ∷ []))) (column_bytes (code_numbers x.arities negative (get_or x.codes i 0)) ++ (10 ∷ []))
+    setting-first = rw (← setting-set) (row-first (7 ∷ []) (code_numbers x.arities negative (get_or x.codes i 0)))
 
-  pub settings-unknown : v ≡ Unknown → joined (setting_bytes arities table values) (up_from 0 atoms) ≡ settings_bytes v atoms arities table values
+module _ (x : Searched) where
+  pub settings-unknown : x.ended.verdict ≡ Unknown → joined (setting_of x) (up_from 0 x.ended.run.atoms) ≡ settings_of x
   unfolding settings_bytes
   settings-unknown e = rw e
 
-  pub settings-spent : v ≡ Spent → settings_bytes v atoms arities table values ≡ []
+  pub settings-none : (x.ended.verdict ≡ Unknown → ⊥) → settings_of x ≡ []
   unfolding settings_bytes
-  settings-spent e = rw e
+  settings-none n = none x.ended.verdict n
+    where
+      none : (v : Verdict) → (v ≡ Unknown → ⊥) → settings_bytes v x.ended.run.atoms x.arities x.codes x.values ≡ []
+      none Unsat n = refl
+      none Unknown n = absurd (n refl)
+      none Spent n = refl
+      none Full n = refl
 
-  pub settings-full : v ≡ Full → settings_bytes v atoms arities table values ≡ []
-  unfolding settings_bytes
-  settings-full e = rw e
+  -- ── all lines ──
 
--- ── all lines ──
+  pub listing-first : Parts (listing_of x) (counts_of x) (log_of x ++ settings_of x)
+  unfolding listing_bytes
+  listing-first = record { whole = refl }
 
-pub listing-first : (v : Verdict) (run : Run) (given : ℕ) (arities starts literals numbers table : List ℕ) (values : Values)
-    → Parts
-    (listing_bytes v run given arities starts literals numbers table values)
-    (count_bytes v run.atoms (run.clauses - given) run.decisions run.conflicts)
-    (log_bytes given run.clauses arities starts literals numbers table ++ settings_bytes v run.atoms arities table values)
-unfolding listing_bytes
-listing-first v run given arities starts literals numbers table values = record { whole = refl }
+pub refusal-first : {number question : ℕ} → question ≡ number → (line : ℕ)
+    → Parts (refusal_line number line) (column_bytes (map plus (9 ∷ question ∷ line ∷ []))) (10 ∷ [])
+unfolding refusal_line row_bytes
+refusal-first {number} e line = rw e (row-parts (map plus (9 ∷ number ∷ line ∷ [])))

@@ -3,3 +3,5 @@ pub mod Lines
 pub mod JoinedLaws
 pub mod CodeParts
 pub mod ListingStands
+pub mod Writes
+pub mod Left

@@ -1,24 +1,16 @@
 -- `read_cnf` meets its contract: no header, clause lines that are refused, or clauses. Assumes nothing.
-use mathlib.Core.Path.{◌∙◌}
-use Rattle.cnf_reader.specs.Parts.{header_clauses}
-use Rattle.cnf_reader.proofs.Answers.{answer-no-header, answer-refused, answer-read}
+use Rattle.std.proofs.Common.{◌∙◌, ap}
+use Rattle.std.specs.Result.{result_ok}
+use Rattle.cnf_reader.proofs.Answers.{handed-on, answer-no-header, answer-lines}
 use Rattle.cnf_reader.proofs.read_cnf.Goals as goal
 
-pub returns-in_default : goal.returns-in_default
-returns-in_default c =
-    let header = rw c.in_default.is at c.header_at.ensures.reads in
-    c.refused.ensures ∙ answer-no-header _ header
-
-pub read_clauses-requires : goal.read_clauses-requires
-unfolding header_clauses
-read_clauses-requires c = rw c.in-Named.is at c.header_at.ensures.small
-
-pub returns-then-read_clauses : goal.returns-then-read_clauses
-returns-then-read_clauses c =
-    let header = rw c.in-Named.is at c.header_at.ensures.reads in
-    answer-read _ _ _ _ header _ _ c.if-read_clauses.true c.read_clauses.ensures
+pub returns-in_err-header : goal.returns-in_err-header
+returns-in_err-header c =
+    let unnamed = c.ok_or.ensures.ok_part ∙ ap result_ok c.in_err-header.was in
+    handed-on _ _ _ _ _ c.from_residual.ensures.1 c.in_err-header.was c.ok_or.ensures.value
+    ∙ answer-no-header _ (rw unnamed at c.header_at.ensures.reads)
 
 pub returns : goal.returns
 returns c =
-    let header = rw c.in-Named.is at c.header_at.ensures.reads in
-    c.refused-2.ensures ∙ answer-refused _ _ _ _ header _ _ c.if-read_clauses.false c.read_clauses.ensures
+    let named = c.ok_or.ensures.ok_part ∙ ap result_ok c.in_ok-header.was in
+    c.ok_or-2.ensures.value ∙ answer-lines _ _ _ (rw named at c.header_at.ensures.reads) _ c.read_clauses.ensures

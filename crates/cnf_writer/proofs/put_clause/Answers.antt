@@ -1,41 +1,24 @@
--- `cnf_writer::put_clause` meets its contract: what is left after the literals, and LF after 0. Assumes nothing.
-use Prim.Native.Nat.{◌+◌}
-use mathlib.Core.Path.{refl}
-use mathlib.Core.List.{[], ◌∷◌}
-use native.Mathlib.Omega.{arith}
-use Rattle.listing.specs.Puts.{Putting, put-none-yet, put-room, put_last, put-first-room, put_first, parts-room, as_written}
-use Rattle.cnf_writer.specs.CnfBytes.{line_text}
-use Rattle.cnf_writer.proofs.Parts.{line_first}
+-- `put_clause` meets its contract: a literal each turn, and those from the i-th word on are still to be written. Assumes nothing.
+use Rattle.std.proofs.Common.{arith}
+use Rattle.listing.specs.Writes.{writing-all, writing-room, writing-first-room, writing-first, writing-last}
+use Rattle.cnf_writer.proofs.Parts.{line-left, line-words-first, line-words-none}
 use Rattle.cnf_writer.proofs.put_clause.Goals as goal
 
-pub overflow_cast-from : goal.overflow_cast-from
-overflow_cast-from c = omega (arith, c.shared_slice_known-1.given c.args.c)
+pub loop-i-init : goal.loop-i-init
+loop-i-init c = writing-all (line-left c.args.store.now.starts c.args.store.now.literals c.args.c c.from-end.ensures c.from-i.ensures)
 
-pub overflow_cast-end : goal.overflow_cast-end
-overflow_cast-end c = omega (arith, c.shared_slice_known-2-1.given (c.args.c + 1))
+pub put_literal-requires : goal.put_literal-requires
+put_literal-requires c =
+    writing-first-room c.loop-i.invariant
+    (line-words-first c.args.store.now.literals c.from-end.result c.loop-i.i (omega arith) (omega (arith, c.requires.inside, c.from-end.ensures))) c.requires.room
 
-pub put_literals-one-requires : goal.put_literals-one-requires
-put_literals-one-requires c =
-    (c.requires.1, parts-room (line_first c.args.starts.now c.args.literals.now c.args.c) _ _ c.requires.2)
+pub loop-i-preserved : goal.loop-i-preserved
+loop-i-preserved c =
+    writing-first c.loop-i.invariant
+    (line-words-first c.args.store.now.literals c.from-end.result c.loop-i.i (omega arith) (omega (arith, c.requires.inside, c.from-end.ensures))) c.put_literal.ensures
 
-pub put_byte-two-requires : goal.put_byte-two-requires
-put_byte-two-requires c =
-    let one : (Putting c.args.room.now c.args.at (line_text c.args.starts.now c.args.literals.now c.args.c)) (48 ∷ 10 ∷ []) c.put_literals-one.result c.put_literals-one.new.room = put_first (put-none-yet refl) (line_first _ _ _) c.put_literals-one.ensures
-    in
-    put-first-room one (as_written {first = 48 ∷ []}) c.requires.2
-
-pub put_byte-requires : goal.put_byte-requires
-put_byte-requires c =
-    let one : (Putting c.args.room.now c.args.at (line_text c.args.starts.now c.args.literals.now c.args.c)) (48 ∷ 10 ∷ []) c.put_literals-one.result c.put_literals-one.new.room = put_first (put-none-yet refl) (line_first _ _ _) c.put_literals-one.ensures
-    in
-    let two : (Putting c.args.room.now c.args.at (line_text c.args.starts.now c.args.literals.now c.args.c)) (10 ∷ []) c.put_byte-two.result c.put_byte-two.new.room = put_first one (as_written {first = 48 ∷ []}) c.put_byte-two.ensures
-    in
-    put-room two c.requires.2
+pub bytes-requires : goal.bytes-requires
+bytes-requires c = rw (← line-words-none c.args.store.now.literals c.from-end.result c.loop-i.i (omega arith)) (writing-room c.loop-i.invariant c.requires.room)
 
 pub returns : goal.returns
-returns c =
-    let one : (Putting c.args.room.now c.args.at (line_text c.args.starts.now c.args.literals.now c.args.c)) (48 ∷ 10 ∷ []) c.put_literals-one.result c.put_literals-one.new.room = put_first (put-none-yet refl) (line_first _ _ _) c.put_literals-one.ensures
-    in
-    let two : (Putting c.args.room.now c.args.at (line_text c.args.starts.now c.args.literals.now c.args.c)) (10 ∷ []) c.put_byte-two.result c.put_byte-two.new.room = put_first one (as_written {first = 48 ∷ []}) c.put_byte-two.ensures
-    in
-    put_last two c.put_byte.ensures
+returns c = writing-last (rw (line-words-none c.args.store.now.literals c.from-end.result c.loop-i.i (omega arith)) at c.loop-i.invariant) c.bytes.ensures

@@ -1,59 +1,29 @@
--- `cnf_writer::put_header` meets its contract: what is left after the name, each number and the blank. Assumes nothing.
-use mathlib.Core.Path.{refl}
-use mathlib.Core.List.{[], ◌∷◌, ◌++◌}
-use Rattle.definitions.specs.Listing.{decimals}
-use Rattle.definitions.specs.Dimacs.{header_line}
-use Rattle.listing.specs.Puts.{Putting, put-none-yet, put-room, put_last, put-first-room, put_first, parts-room, as_written}
+-- `put_header` meets its contract: the name, and two numbers with the bytes that end them. Assumes nothing.
+use Rattle.listing.specs.Puts.{as_written}
+use Rattle.listing.specs.Writes.{first-room, more-room, both-written}
 use Rattle.cnf_writer.proofs.Parts.{header-first}
 use Rattle.cnf_writer.proofs.put_header.Goals as goal
 
-pub put_name-one-requires : goal.put_name-one-requires
-put_name-one-requires c = parts-room (header-first c.args.atoms c.args.clauses) _ _ c.requires
+pub bytes-requires : goal.bytes-requires
+bytes-requires c = first-room (header-first c.args.atoms c.args.clauses) c.requires
 
-pub put_size-two-requires : goal.put_size-two-requires
-put_size-two-requires c =
-    let one : (Putting c.args.room.now c.args.at (header_line c.args.atoms c.args.clauses)) ((decimals 3 c.args.atoms) ++ (32 ∷ (decimals 3 c.args.clauses) ++ (10 ∷ []))) c.put_name-one.result c.put_name-one.new.room = put_first (put-none-yet refl) (header-first _ _) c.put_name-one.ensures
-    in
-    put-first-room one (as_written {first = (decimals 3 c.args.atoms)}) c.requires
+pub decimal-requires : goal.decimal-requires
+decimal-requires c = first-room as_written (more-room (header-first c.args.atoms c.args.clauses) c.bytes.ensures c.requires)
 
-pub put_byte-three-requires : goal.put_byte-three-requires
-put_byte-three-requires c =
-    let one : (Putting c.args.room.now c.args.at (header_line c.args.atoms c.args.clauses)) ((decimals 3 c.args.atoms) ++ (32 ∷ (decimals 3 c.args.clauses) ++ (10 ∷ []))) c.put_name-one.result c.put_name-one.new.room = put_first (put-none-yet refl) (header-first _ _) c.put_name-one.ensures
-    in
-    let two : (Putting c.args.room.now c.args.at (header_line c.args.atoms c.args.clauses)) (32 ∷ (decimals 3 c.args.clauses) ++ (10 ∷ [])) c.put_size-two.result c.put_size-two.new.room = put_first one as_written c.put_size-two.ensures
-    in
-    put-first-room two (as_written {first = 32 ∷ []}) c.requires
+pub byte-requires : goal.byte-requires
+byte-requires c = first-room as_written (more-room as_written c.decimal.ensures (more-room (header-first c.args.atoms c.args.clauses) c.bytes.ensures c.requires))
 
-pub put_size-four-requires : goal.put_size-four-requires
-put_size-four-requires c =
-    let one : (Putting c.args.room.now c.args.at (header_line c.args.atoms c.args.clauses)) ((decimals 3 c.args.atoms) ++ (32 ∷ (decimals 3 c.args.clauses) ++ (10 ∷ []))) c.put_name-one.result c.put_name-one.new.room = put_first (put-none-yet refl) (header-first _ _) c.put_name-one.ensures
-    in
-    let two : (Putting c.args.room.now c.args.at (header_line c.args.atoms c.args.clauses)) (32 ∷ (decimals 3 c.args.clauses) ++ (10 ∷ [])) c.put_size-two.result c.put_size-two.new.room = put_first one as_written c.put_size-two.ensures
-    in
-    let three : (Putting c.args.room.now c.args.at (header_line c.args.atoms c.args.clauses)) ((decimals 3 c.args.clauses) ++ (10 ∷ [])) c.put_byte-three.result c.put_byte-three.new.room = put_first two (as_written {first = 32 ∷ []}) c.put_byte-three.ensures
-    in
-    put-first-room three (as_written {first = (decimals 3 c.args.clauses)}) c.requires
+pub decimal-requires-2 : goal.decimal-requires-2
+decimal-requires-2 c =
+    first-room as_written (more-room as_written c.byte.ensures
+    (more-room as_written c.decimal.ensures (more-room (header-first c.args.atoms c.args.clauses) c.bytes.ensures c.requires)))
 
-pub put_byte-requires : goal.put_byte-requires
-put_byte-requires c =
-    let one : (Putting c.args.room.now c.args.at (header_line c.args.atoms c.args.clauses)) ((decimals 3 c.args.atoms) ++ (32 ∷ (decimals 3 c.args.clauses) ++ (10 ∷ []))) c.put_name-one.result c.put_name-one.new.room = put_first (put-none-yet refl) (header-first _ _) c.put_name-one.ensures
-    in
-    let two : (Putting c.args.room.now c.args.at (header_line c.args.atoms c.args.clauses)) (32 ∷ (decimals 3 c.args.clauses) ++ (10 ∷ [])) c.put_size-two.result c.put_size-two.new.room = put_first one as_written c.put_size-two.ensures
-    in
-    let three : (Putting c.args.room.now c.args.at (header_line c.args.atoms c.args.clauses)) ((decimals 3 c.args.clauses) ++ (10 ∷ [])) c.put_byte-three.result c.put_byte-three.new.room = put_first two (as_written {first = 32 ∷ []}) c.put_byte-three.ensures
-    in
-    let four : (Putting c.args.room.now c.args.at (header_line c.args.atoms c.args.clauses)) (10 ∷ []) c.put_size-four.result c.put_size-four.new.room = put_first three as_written c.put_size-four.ensures
-    in
-    put-room four c.requires
+pub byte-requires-2 : goal.byte-requires-2
+byte-requires-2 c =
+    more-room as_written c.decimal-2.ensures (more-room as_written c.byte.ensures
+    (more-room as_written c.decimal.ensures (more-room (header-first c.args.atoms c.args.clauses) c.bytes.ensures c.requires)))
 
 pub returns : goal.returns
 returns c =
-    let one : (Putting c.args.room.now c.args.at (header_line c.args.atoms c.args.clauses)) ((decimals 3 c.args.atoms) ++ (32 ∷ (decimals 3 c.args.clauses) ++ (10 ∷ []))) c.put_name-one.result c.put_name-one.new.room = put_first (put-none-yet refl) (header-first _ _) c.put_name-one.ensures
-    in
-    let two : (Putting c.args.room.now c.args.at (header_line c.args.atoms c.args.clauses)) (32 ∷ (decimals 3 c.args.clauses) ++ (10 ∷ [])) c.put_size-two.result c.put_size-two.new.room = put_first one as_written c.put_size-two.ensures
-    in
-    let three : (Putting c.args.room.now c.args.at (header_line c.args.atoms c.args.clauses)) ((decimals 3 c.args.clauses) ++ (10 ∷ [])) c.put_byte-three.result c.put_byte-three.new.room = put_first two (as_written {first = 32 ∷ []}) c.put_byte-three.ensures
-    in
-    let four : (Putting c.args.room.now c.args.at (header_line c.args.atoms c.args.clauses)) (10 ∷ []) c.put_size-four.result c.put_size-four.new.room = put_first three as_written c.put_size-four.ensures
-    in
-    put_last four c.put_byte.ensures
+    both-written (header-first c.args.atoms c.args.clauses) c.bytes.ensures
+    (both-written as_written c.decimal.ensures (both-written as_written c.byte.ensures (both-written as_written c.decimal-2.ensures c.byte-2.ensures)))

@@ -1,21 +1,9 @@
 -- `clause_lines::literal_at` meets its contract: a literal is its sign and a number of the range. Assumes nothing.
-use native.Mathlib.Omega.{arith}
-use Rattle.cnf_reader.specs.Parts.{decimal_size}
-use Rattle.cnf_reader.specs.Lines.{literal_size}
-use Rattle.cnf_reader.proofs.ClauseLines.{literal-none, literal-turn}
+use Rattle.cnf_reader.proofs.ClauseLines.{literal-none, literal-read}
 use Rattle.cnf_reader.proofs.clause_lines.literal_at.Goals as goal
 
-pub returns-in-Decimal : goal.returns-in-Decimal
-unfolding literal_size decimal_size
-returns-in-Decimal c =
-    let sign = c.sign_at-sign in
-    let number = rw c.in-Decimal.is at (c.number_at.ensures.reads 22) in
-    let small = rw c.in-Decimal.is at c.number_at.ensures.small.1 in
-    record { reads = literal-turn _ c.args.at _ _ sign.result.next sign.ensures _ _ number; small = small }
+pub returns-in_err-size : goal.returns-in_err-size
+returns-in_err-size c = rw c.from_residual.ensures (literal-none _ _ _ _ c.sign_at-negative.ensures (c.in_err-size.ensures.reads 22))
 
-pub returns-in-NoDecimal : goal.returns-in-NoDecimal
-unfolding literal_size
-returns-in-NoDecimal c =
-    let sign = c.sign_at-sign in
-    let number = rw c.in-NoDecimal.is at (c.number_at.ensures.reads 22) in
-    record { reads = literal-none _ c.args.at _ _ sign.result.next sign.ensures number; small = omega arith }
+pub returns : goal.returns
+returns c = literal-read _ _ _ _ c.sign_at-negative.ensures _ _ _ (c.in_ok-size.ensures.reads 22) c.word_of.ensures

@@ -1,42 +1,20 @@
--- `clause_lines::read_clauses` meets its contract: whatever reads the clauses that are left, with those that stand reads all of them. Assumes nothing.
-use Prim.Native.Nat.{◌+◌, ◌-◌}
-use mathlib.Core.Path.{◌≡◌}
-use native.Mathlib.Omega.{arith}
-use borrow.Author.Rules.{rules}
-use Rattle.cnf_reader.specs.Lines.{line_end}
-use Rattle.cnf_reader.proofs.Clauses.{clauses-end, clauses-none, clauses-turn}
+-- `clause_lines::read_clauses` meets its contract: what the rest of the lines comes to, so do all. Assumes nothing.
+use Rattle.std.proofs.Common.{◌≡◌, sym, ◌∙◌, ◌+◌, ◌-◌, arith}
+use Rattle.cnf_reader.proofs.Clauses.{clauses-end, clauses-more, clauses-none, clauses-turn, all-held}
 use Rattle.cnf_reader.proofs.clause_lines.read_clauses.Goals as goal
 
-pub loop-i-init : goal.loop-i-init
-loop-i-init c =
-    let all : c.args.clauses - 0 ≡ c.args.clauses = omega arith in
-    (search rules, search rules, λ r starts' literals' h. rw all at h)
-
-pub returns-in-NoLine : goal.returns-in-NoLine
-returns-in-NoLine c =
-    let l = c.loop-i in
-    let a = c.args in
-    let read = c.read_line in
-    let line = rw c.in-NoLine.is at read.ensures.reads in
-    l.invariant.2 _ _ _ (clauses-none a.text.now a.atoms (a.clauses - l.i) l.at l.i l.used l.starts l.literals (a.clauses - (l.i + 1)) (omega arith) read.new.literals line _ _)
+pub returns-in_err-used : goal.returns-in_err-used
+returns-in_err-used c =
+    rw c.from_residual.ensures (clauses-none c.loop-i.invariant.1 (c.args.header.clauses - (c.loop-i.i + 1)) (omega arith) c.in_err-used.ensures.reads)
 
 pub loop-i-preserved : goal.loop-i-preserved
-unfolding line_end
 loop-i-preserved c =
-    let l = c.loop-i in
-    let a = c.args in
-    let read = c.read_line in
-    let line = rw c.in-Line.is at read.ensures.reads in
-    let room = rw c.in-Line.is at read.ensures.room in (
-      omega arith,
-      omega (arith, room),
-      λ r starts' literals' h. l.invariant.2 r starts' literals'
-          (clauses-turn a.text.now a.atoms (a.clauses - l.i) l.at l.i l.used l.starts l.literals (a.clauses - (l.i + 1)) (omega arith)
-          _ _ read.new.literals line r starts' literals' h),
-    )
+    (omega (arith, c.in_ok-used.ensures.room), clauses-turn c.loop-i.invariant.1 _ (omega arith) _ _ _ c.in_ok-used.ensures.reads)
+
+pub returns-then-not-is_empty : goal.returns-then-not-is_empty
+returns-then-not-is_empty c = clauses-more c.loop-i.invariant.1 (omega arith) (sym c.is_empty.ensures ∙ c.if-not-is_empty.true)
 
 pub returns : goal.returns
 returns c =
-    let l = c.loop-i in
-    let a = c.args in
-    l.invariant.2 _ _ _ (clauses-end a.text.now a.atoms (a.clauses - l.i) l.at l.i l.used l.starts l.literals (omega arith))
+    let last : c.loop-i.i ≡ c.from.result = omega arith in
+    all-held _ _ _ _ _ (rw last at (clauses-end c.loop-i.invariant.1 (omega arith) (sym c.is_empty.ensures ∙ c.if-not-is_empty.false)))

@@ -1,32 +1,23 @@
--- `parts::header_at` meets its contract: the name, the atoms and the clauses, each read or not. Assumes nothing.
-use native.Mathlib.Omega.{arith}
-use Rattle.definitions.specs.Text.{bytes}
-use Rattle.cnf_reader.specs.Parts.{decimal_size, header_clauses}
-use Rattle.cnf_reader.proofs.Numbers.{header-unnamed, header-no-atoms, header-no-clauses, header-named}
+-- `parts::header_at` meets its contract: the header is its three parts. Assumes nothing.
+use Rattle.definitions.specs.Questions.{◌>>=◌}
+use Rattle.cnf_reader.proofs.Numbers.{header-parts}
 use Rattle.cnf_reader.proofs.parts.header_at.Goals as goal
 
-pub returns-in_default : goal.returns-in_default
-unfolding bytes header_clauses
-returns-in_default c = record { reads = header-unnamed _ (rw c.in_default.is at (c.skip_all.ensures 21)); small = omega arith }
+pub returns-in_err-rest-clause-reads : goal.returns-in_err-rest-clause-reads
+unfolding ◌>>=◌
+returns-in_err-rest-clause-reads c = rw (c.from_residual.ensures, header-parts, c.in_err-rest.ensures 21)
 
-pub returns-in_default-number_at : goal.returns-in_default-number_at
-unfolding bytes header_clauses
-returns-in_default-number_at c =
-    let name = rw c.in-At.is at (c.skip_all.ensures 21) in
-    record { reads = header-no-atoms _ _ name (rw c.in_default-number_at.is at (c.number_at.ensures.reads 21)); small = omega arith }
+pub returns-in_err-atoms-clause-reads : goal.returns-in_err-atoms-clause-reads
+unfolding ◌>>=◌
+returns-in_err-atoms-clause-reads c =
+    rw (c.from_residual-in_err-atoms.ensures, header-parts, c.in_ok-rest.ensures 21, c.in_err-atoms.ensures.reads 21)
 
-pub returns-in_default-number_at-2 : goal.returns-in_default-number_at-2
-unfolding bytes header_clauses
-returns-in_default-number_at-2 c =
-    let name = rw c.in-At.is at (c.skip_all.ensures 21) in
-    let atoms = rw c.in-Decimal.is at (c.number_at.ensures.reads 21) in
-    record { reads = header-no-clauses _ _ name _ _ atoms (rw c.in_default-number_at-2.is at (c.number_at-2.ensures.reads 21)); small = omega arith }
+pub returns-in_err-clauses-clause-reads : goal.returns-in_err-clauses-clause-reads
+unfolding ◌>>=◌
+returns-in_err-clauses-clause-reads c =
+    rw (c.from_residual-in_err-clauses.ensures, header-parts, c.in_ok-rest.ensures 21, c.in_ok-atoms.ensures.reads 21, c.in_err-clauses.ensures.reads 21)
 
-pub returns : goal.returns
-unfolding bytes header_clauses decimal_size
-returns c =
-    let name = rw c.in-At.is at (c.skip_all.ensures 21) in
-    let atoms = rw c.in-Decimal.is at (c.number_at.ensures.reads 21) in
-    let clauses = rw c.in-Decimal-number_at.is at (c.number_at-2.ensures.reads 21) in
-    let few = rw c.in-Decimal-number_at.is at c.number_at-2.ensures.small.0 in
-    record { reads = header-named _ _ name _ _ atoms _ _ clauses; small = few }
+pub returns-clause-reads : goal.returns-clause-reads
+unfolding ◌>>=◌
+returns-clause-reads c =
+    rw (header-parts, c.in_ok-rest.ensures 21, c.in_ok-atoms.ensures.reads 21, c.in_ok-clauses.ensures.reads 21)
