@@ -1,9 +1,8 @@
 -- The counters beside the machine: what each step asks of them, and that they stay those of its clauses and values. Assumes nothing.
 use Rattle.std.specs.Prelude.{ℕ, zero, suc, ◌+◌, ◌-◌, ◌*◌, ◌/◌, ◌%◌, ◌≤◌, ◌<◌, ◌≡◌, refl, List, ◌∷◌, ◌++◌, leb, ltb, set, take, drop}
-use Rattle.std.proofs.Common.{sym, ◌∙◌, subst, arith, get_or-set_other}
+use Rattle.std.proofs.Common.{sym, ◌∙◌, subst, arith, get_or-set_other, Continue, Break}
 use Rattle.std.proofs.Math.Path.{ap}
 use Rattle.std.proofs.Math.Option.{Option, none, some}
-use Rattle.std.proofs.Common.{Continue, Break}
 use Rattle.std.proofs.Math.Dec.{eqb}
 use Rattle.std.proofs.Math.ListN.{length, get_or}
 use Rattle.std.proofs.lemmas.List.Edits.{sets}

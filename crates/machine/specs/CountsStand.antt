@@ -1,15 +1,13 @@
 -- The counters of the machine say of each clause of the state what is found by reading it whole, after however many steps. Assumes nothing.
-use Prim.Native.Nat.{ℕ, suc, ◌+◌, ◌-◌, ◌*◌, ◌%◌, ◌≤◌, ◌<◌}
-use Rattle.std.specs.Prelude.{◌≡◌, refl, Bool, take}
+use Rattle.std.specs.Prelude.{ℕ, suc, ◌+◌, ◌-◌, ◌*◌, ◌%◌, ◌≤◌, ◌<◌, ◌≡◌, refl, Bool, take}
 use Rattle.std.proofs.Math.Path.{sym, ap, ap₂}
-use Rattle.std.proofs.Common.{◌∙◌, subst, zero-add, length-append, take_at}
+use Rattle.std.proofs.Common.{◌∙◌, subst, zero-add, length-append, take_at, arith, leb-true, leb-false, le-leb}
 use Rattle.std.proofs.Math.Bool.{not, and-true, and-false}
 use mathlib.Core.List.Memᴰ
 use mathlib.Core.List.{List, [], ◌∷◌, ◌++◌, map, map-append, map-map}
-use native.Mathlib.Omega.{arith}
 use Rattle.std.proofs.Math.Dec.{leb}
 use Rattle.std.proofs.Math.ListN.{length, length-map}
-use borrow.Author.Tests.{leb-true, leb-false, le-leb, lt-leb}
+use Rattle.std.proofs.lemmas.Bool.{lt-leb}
 use Rattle.bits.specs.Bits.{among}
 use Rattle.definitions.specs.Lists.{◌∈◌, any, filter, distinct, up_from}
 use Rattle.definitions.specs.Words.{Atom, Literal, same_literal, Clause, Problem}

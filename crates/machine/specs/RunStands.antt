@@ -1,7 +1,6 @@
 -- After however many steps a run of the machine stands for the run of the search. So the words of the goal atoms say what the trail says, and
 -- all words together the table of states. Assumes nothing.
-use Prim.Native.Nat.{ℕ, zero, suc}
-use Rattle.std.specs.Prelude.{◌≡◌, List}
+use Rattle.std.specs.Prelude.{ℕ, zero, suc, ◌≡◌, List}
 use Rattle.std.proofs.Math.Path.{refl}
 use Rattle.std.proofs.Common.{sym, subst}
 use Rattle.definitions.specs.Words.{Problem, goal_atoms}

@@ -1,11 +1,10 @@
 -- What the calls of a step ask for, wherever the machine stands for a state of a search. Assumes nothing.
-use Prim.Native.Nat.{ℕ, zero, suc, ◌+◌, ◌≤◌, ◌<◌, ◌^◌}
-use Rattle.std.specs.Prelude.{◌≡◌, refl, true, List, eqb, length}
+use Rattle.std.specs.Prelude.{ℕ, zero, suc, ◌+◌, ◌≤◌, ◌<◌, ◌^◌, ◌≡◌, refl, true, List, eqb, length, Some, None}
 use Rattle.std.proofs.Common.{sym, ap, ◌∙◌, arith}
 use Rattle.std.proofs.Math.Path.{subst}
 use Rattle.std.proofs.Math.Option.{Option, none, some}
 use Rattle.std.proofs.Math.ListN.{get_or}
-use borrow.Author.Tests.{eqb-false, not-true}
+use Rattle.std.proofs.lemmas.Bool.{eqb-false, not-true}
 use Rattle.definitions.specs.Lists.{◌∈◌}
 use Rattle.definitions.specs.Words.{Atom, Literal, plain, Problem}
 use Rattle.definitions.specs.Instances.{task_of}
@@ -32,7 +31,6 @@ use Rattle.machine.specs.declared.Machine.{Machine}
 use Rattle.machine.specs.StandsLaws.{room_for, act-as, unit-unset, back_none, back_some, goal-unset, goal-none, goal-some}
 use Rattle.machine.specs.declared.Run.{Run}
 use Rattle.units.specs.declared.UnitAct.TheVariants.{Force, Nothing}
-use Rattle.std.specs.Prelude.{Some, None}
 use Rattle.walk.specs.declared.Instance.{Instance}
 use Rattle.walk.specs.WalkLaws.{found_below, first_from-passes, found-same}
 use Rattle.rules.specs.Rules.{code_under, true_under, head_slots, rule_variables, RulesFit, IndexFits}

@@ -1,13 +1,11 @@
 -- Every step of the machine stands for a step of the search, kind by kind: what the search finds fixes each test of the machine, and
 -- the arrays then change as the state does. Assumes nothing.
-use Prim.Native.Nat.{ℕ, zero, suc, ◌+◌, ◌-◌, ◌*◌, ◌<◌}
-use Rattle.std.specs.Prelude.{◌≡◌, true, false, List, [], ◌∷◌, get_or, drop}
+use Rattle.std.specs.Prelude.{ℕ, zero, suc, ◌+◌, ◌-◌, ◌*◌, ◌<◌, ◌≡◌, true, false, List, [], ◌∷◌, get_or, drop, Some, None}
 use Rattle.std.proofs.Math.Path.{refl, sym, ap, subst}
-use Rattle.std.proofs.Common.{◌∙◌, length-set}
+use Rattle.std.proofs.Common.{◌∙◌, length-set, arith, ltb-true, ltb-false, eq-eqb, ne_eqb, le-leb, Continue, Break}
 use Rattle.std.proofs.Math.Option.{Option, none, some}
-use native.Mathlib.Omega.{arith}
 use Rattle.std.proofs.Math.ListN.{length, take, length-append}
-use borrow.Author.Tests.{ltb-true, ltb-false, eq-eqb, ne_eqb, le-leb, lt-leb}
+use Rattle.std.proofs.lemmas.Bool.{lt-leb}
 use Rattle.definitions.specs.Lists.{◌∈◌, joined}
 use Rattle.definitions.specs.Words.{Atom, Literal, plain, Problem, goal_atoms, position}
 use Rattle.definitions.specs.Instances.{task_of}
@@ -41,8 +39,6 @@ use Rattle.machine.specs.StandsLaws.{true-words, true-known, room_for, act-as, u
 use Rattle.units.specs.BacktrackLaws.{zero-backtrack-none}
 use Rattle.rules.specs.RuleStands.{rule-variables}
 use Rattle.machine.specs.declared.Run.{Run}
-use Rattle.std.proofs.Common.{Continue, Break}
-use Rattle.std.specs.Prelude.{Some, None}
 use Rattle.walk.specs.declared.Instance.{Instance}
 
 -- ── what a step of the machine comes to ──

@@ -1,8 +1,7 @@
 -- From what the reader leaves to what the search leaves: a refusal is handed on, and arrays that hold a problem can be searched,
 -- whatever they held before. Assumes nothing.
-use Rattle.std.specs.Prelude.{ℕ, ◌<◌, ◌≡◌, List, map}
+use Rattle.std.specs.Prelude.{ℕ, ◌<◌, ◌≡◌, List, map, IsErrAnd}
 use Rattle.std.proofs.Math.Path.{refl, ap}
-use Rattle.std.specs.Prelude.{IsErrAnd}
 use Rattle.std.proofs.Common.{sym, ◌∙◌, arith, Result, Ok, Err}
 use Rattle.std.proofs.Math.ListN.{length, get_or}
 use Rattle.std.proofs.Math.Seq.{length-sets}
