@@ -1,10 +1,9 @@
--- Arrays that are lent to a function: what they hold when it is called and when it is done. The arrays of a search are records in the
--- grain in which functions change them. Assumes nothing.
-use Rattle.std.specs.Prelude.{ℕ, ◌≡◌, List}
-use Rattle.std.proofs.Common.{Bor, MutBor}
+-- Arrays that are lent to a function one by one: what they hold when it is called and when it is done. And the structs of the arrays of a
+-- search, from their parts. Assumes nothing.
+use Rattle.std.specs.Prelude.{ℕ, List}
+use Rattle.std.proofs.Common.{MutBor}
 use denote.Triple.Both.{Both}
 use Rattle.encoding.specs.Encoding.{Arrays, arrays}
-use Rattle.encoding.specs.Values.{Values}
 use Rattle.encoding.specs.declared.ClauseStore.{ClauseStore}
 use Rattle.encoding.specs.declared.AtomTable.{AtomTable}
 
@@ -15,23 +14,9 @@ Array = MutBor (List ℕ)
 abbrev pub Lent : Type 0
 Lent = Both Array Array
 
--- one that is lent to be read
-abbrev pub Shared : Type 0
-Shared = Both (Bor (List ℕ)) (Bor (List ℕ))
-
--- the states of atoms likewise
-abbrev pub ValueArray : Type 0
-ValueArray = MutBor Values
-
-abbrev pub LentValues : Type 0
-LentValues = Both ValueArray ValueArray
-
--- how what is left stands to what was lent, and that it is made of it by a function
+-- how what is left stands to what was lent
 abbrev pub Leaves : {A : Type 0} → (A → A → Type 0) → Both A A → Type 0
 Leaves R x = R x.entry x.exit
-
-abbrev pub Becomes : {A : Type 0} → (A → A) → Both A A → Type 0
-Becomes f x = x.exit ≡ f x.entry
 
 -- the clause store
 abbrev pub clause_store : List ℕ → List ℕ → List ℕ → List ℕ → ClauseStore
@@ -42,13 +27,6 @@ abbrev pub atom_table : List ℕ → List ℕ → AtomTable
 atom_table codes index = record { codes = codes; index = index }
 
 -- ── lent ──
-
-abbrev pub lent_store : Lent → Lent → Lent → Lent → Both ClauseStore ClauseStore
-lent_store starts literals heads numbers =
-    record {
-      entry = clause_store starts.entry.now literals.entry.now heads.entry.now numbers.entry.now;
-      exit = clause_store starts.exit.now literals.exit.now heads.exit.now numbers.exit.now;
-    }
 
 abbrev pub lent_arrays : Lent → Lent → Lent → Lent → Lent → Lent → Both Arrays Arrays
 lent_arrays arities rules starts literals table index =
