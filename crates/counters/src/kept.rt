@@ -13,7 +13,8 @@ impl Counters {
     // The literal of an unset atom becomes true.
     pub fn set(&mut self, clauses: usize, w: u16)
         requires { (w < 512) × (clauses ≤ 640) × ((values : Values) × IsUnset values w × CountersFit values ((clauses + 63) / 64) self.old) }
-        ensures { (values : Values) → IsUnset values w → StayKept ((clauses + 63) / 64) values self.old (assigned values w) self.new }
+        ensures rows { self.new.rows ≡ self.old.rows }
+        ensures kept { (values : Values) → IsUnset values w → StayKept ((clauses + 63) / 64) values self.old (assigned values w) self.new }
     {
         let words = (clauses + 63) / 64;
         let other = values::other_sign(w);
@@ -24,7 +25,8 @@ impl Counters {
     // The literal of an atom that is set as it says becomes unset.
     pub fn undo(&mut self, clauses: usize, w: u16)
         requires { (w < 512) × (clauses ≤ 640) × ((values : Values) × IsSet values w × CountersFit values ((clauses + 63) / 64) self.old) }
-        ensures { (values : Values) → IsSet values w → StayKept ((clauses + 63) / 64) values self.old (unassigned values w) self.new }
+        ensures rows { self.new.rows ≡ self.old.rows }
+        ensures kept { (values : Values) → IsSet values w → StayKept ((clauses + 63) / 64) values self.old (unassigned values w) self.new }
     {
         let words = (clauses + 63) / 64;
         let other = values::other_sign(w);
@@ -36,7 +38,8 @@ impl Counters {
     pub fn undo_entries(&mut self, clauses: usize, trail: &Trail, from: usize, n: usize)
         requires { (from ≤ n) × (n ≤ 256) × (clauses ≤ 640)
             × ((values : Values) × Undoable values trail.now.words from n × CountersFit values ((clauses + 63) / 64) self.old) }
-        ensures { (values : Values) → Undoable values trail.now.words from n
+        ensures rows { self.new.rows ≡ self.old.rows }
+        ensures kept { (values : Values) → Undoable values trail.now.words from n
             → StayKept ((clauses + 63) / 64) values self.old (cleared values (take (n - from) (drop from trail.now.words))) self.new }
     {
         for at in from..n {
