@@ -30,7 +30,7 @@ module _ (words : List ℕ) (from i word : ℕ) (is : word ≡ get_or words (i /
         let below : word / 2 ^ (i % 64) < 2 ^ 64 = omega arith in
         sym (has-over (i % 64) t word) ∙ rw tz (has-lowest 64 (word / 2 ^ (i % 64)) some below)
 
-    in-word : i % 64 + t < 64
+    pub in-word : i % 64 + t < 64
     in-word = by_order 64 (i % 64 + t) (λ l. absurd (false≢true (sym (has-high (i % 64 + t) 64 word small l) ∙ here))) (λ l. l)
 
     pub first-here : (from ≤ i → from ≤ i + t) × (among words (i + t) ≡ true) × NoneBetween words from (i + t)

@@ -25,7 +25,8 @@ pub fn with_bit(m: u32, c: usize) -> u32
     m | (1u32 << c)
 }
 
-// The lowest set bit. The clause on the word itself is for callers that read it from an array.
+// The lowest set bit. The clause on the word itself is for callers that read it from an array. Callers take the bits of a word one by one by this
+// and `without_lowest`: an iterator of our own would need its laws for every caller.
 pub fn lowest(m: u32) -> usize
     requires { 0 < m }
     ensures { (result ≡ count_trailing_zeros 32 m) × (result < 32) × (m < 2 ^ 32) }

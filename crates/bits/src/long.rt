@@ -1,5 +1,5 @@
-// Words of 64 bits. What stands here for words of 32 bits too is no generic function: std has no trait over both whose laws speak of bits, and
-// one of our own would have each body once for either.
+// Words of 64 bits. What stands in lib.rt for words of 32 bits too is no generic function: std has no trait over both whose laws speak of bits,
+// and a trait of our own would have each body twice.
 ghost use Rattle.std.specs.Prelude.{◌≡◌, true, ◌-◌, ◌/◌, ◌%◌, ◌^◌, ◌≤◌, ◌<◌};
 ghost use Rattle.std.specs.Int.Bits.{bit_or};
 ghost use Rattle.std.specs.Int.Count.{count_trailing_zeros};

@@ -19,6 +19,7 @@ pub fn first_between(words: &[u64], from: usize, end: usize) -> Option<usize>
     requires { (end ≤ 64 * length words.now) × (length words.now < 2 ^ 32) }
     ensures { IsFirst words.now from end result }
 {
+    // No `for`: it goes on by words, and a word that is 0 is passed over at once.
     let mut i = from;
     while i < end {
         let left = words[i / 64] >> (i % 64);

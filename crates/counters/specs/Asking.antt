@@ -1,8 +1,10 @@
 -- Step A over the clauses that ask: the next of them, and that the first clause that acts is one of them. Assumes nothing.
-use Rattle.std.specs.Prelude.{◌≡◌, true, false, List, leb, get_or, ℕ, zero, suc, ◌+◌, ◌-◌, ◌≤◌, ◌<◌}
+use Rattle.std.specs.Prelude.{◌≡◌, true, false, List, leb, get_or, ℕ, zero, suc, ◌+◌, ◌-◌, ◌*◌, ◌/◌, ◌%◌, ◌^◌, ◌≤◌, ◌<◌}
 use Rattle.std.proofs.Common.{sym, ◌∙◌, lt-ltb, leb-true, leb-false, arith}
+use Rattle.std.specs.Int.Count.{count_trailing_zeros}
 use Rattle.bits.specs.Bits.{among}
 use Rattle.bits.specs.Sets.{NoneBetween}
+use Rattle.bits.proofs.SetTurns.{none-here, in-word, first-here}
 use Rattle.encoding.specs.CountLaws.{by_order}
 use Rattle.encoding.specs.Values.{Values}
 use Rattle.units.specs.Units.{clause_at, may_set, act_at, act_from}
@@ -12,6 +14,23 @@ use Rattle.counters.specs.Weights.{whole-is-once}
 use Rattle.counters.specs.ByNumber.{rests}
 use Rattle.counters.specs.Counters.{read_whole, number_asks, counters_of, counters}
 use Rattle.counters.specs.CounterLaws.{counters-kept}
+
+-- ── the next clause that asks ──
+
+-- no clause from one up to another asks
+abbrev pub Unasked : List ℕ → ℕ → ℕ → Type 0
+Unasked asking c r = NoneBetween asking c r
+
+module _ (asking : List ℕ) (c i word : ℕ) (is : word ≡ get_or asking (i / 64) 0) (so_far : Unasked asking c i) where
+  pub none_here : word / 2 ^ (i % 64) ≡ 0 → Unasked asking c (64 * (i / 64 + 1))
+  none_here = none-here asking c i word is so_far
+
+  module _ (small : word < 2 ^ 64) (t : ℕ) (some : 0 < word / 2 ^ (i % 64)) (tz : t ≡ count_trailing_zeros 64 (word / 2 ^ (i % 64))) where
+    pub next_here : (i < 640 → i + t < 640) × Unasked asking c (i + t) × (among asking (i + t) ≡ true)
+    next_here =
+        let first = first-here asking c i word is so_far small t some tz in
+        let inside = in-word asking c i word is so_far small t some tz in
+        (λ l. omega arith, first.2, first.1)
 
 -- ── the numbers of the clauses ──
 
@@ -56,7 +75,7 @@ module _ (values : Values) (starts literals heads : List ℕ) (given goals : ℕ
         rests values (clause_at starts literals c) (may_set values starts literals heads given goals c)
         (asks-not values (λ c. clause_at starts literals c) clauses few its c l n)
 
-    to-next : (c r : ℕ) → c ≤ r → r ≤ clauses → NoneBetween asking c r → acts c (clauses - c) ≡ acts r (clauses - r)
+    to-next : (c r : ℕ) → c ≤ r → r ≤ clauses → Unasked asking c r → acts c (clauses - c) ≡ acts r (clauses - r)
     to-next c r a b h =
         let e : clauses - c ≡ (r - c) + (clauses - r) = omega arith in
         let d : c + (r - c) ≡ r = omega arith in
@@ -67,7 +86,7 @@ module _ (values : Values) (starts literals heads : List ℕ) (given goals : ℕ
     none_left c l = let e : clauses - c ≡ 0 = omega arith in rw e
 
     -- from the start, or behind a clause that does nothing, to the next that asks
-    pub ask-next : (c r : ℕ) {x : UnitAct} → c ≤ r → NoneBetween asking c r → acts c (clauses - c) ≡ x → acts r (clauses - r) ≡ x
+    pub ask-next : (c r : ℕ) {x : UnitAct} → c ≤ r → Unasked asking c r → acts c (clauses - c) ≡ x → acts r (clauses - r) ≡ x
     ask-next c r l h left =
         by_order r clauses
         (λ b. sym (to-next c r l b h) ∙ left)

@@ -1,6 +1,6 @@
 -- A clause is entered behind the others: its bits in the rows of its words, its number, and whether it asks. Assumes nothing.
 use Rattle.std.proofs.lemmas.Bool.{eqb-false}
-use Rattle.std.specs.Prelude.{ℕ, ◌+◌, ◌*◌, ◌/◌, ◌%◌, ◌^◌, ◌≤◌, ◌<◌, ◌≡◌, refl, Bool, List, [], ◌∷◌, ◌++◌, eqb, ltb, length, get_or, set, take}
+use Rattle.std.specs.Prelude.{ℕ, ◌+◌, ◌-◌, ◌*◌, ◌/◌, ◌%◌, ◌^◌, ◌≤◌, ◌<◌, ◌≡◌, refl, Bool, List, [], ◌∷◌, ◌++◌, eqb, ltb, length, get_or, set, take, drop}
 use Rattle.std.proofs.Math.Path.{sym}
 use Rattle.std.proofs.Common.{◌∙◌, length-set, add-one, take-suc, arith, eqb-true, eq-eqb, ne_eqb, ltb-true, ltb-false, lt-ltb, le-ltb}
 use Rattle.std.proofs.Math.Bool.{true, false, or-true, or-false}
@@ -9,8 +9,10 @@ use Rattle.std.proofs.Math.Seq.{get_or-set_same, get_or-set_other}
 use Rattle.definitions.specs.Lists.{any}
 use Rattle.theory.specs.Tests.{by-test}
 use Rattle.bits.specs.Bits.{has, has-put, put-below, one_shifted, among}
-use Rattle.encoding.specs.ArrayLaws.{get_d-set-each}
+use Rattle.encoding.specs.ArrayLaws.{get_d-set-each, get_d-rising, part-nil}
+use Rattle.encoding.specs.Lengths.{literal_array}
 use Rattle.encoding.specs.Values.{Values}
+use Rattle.units.specs.Units.{clause_at, ClausesFit}
 use Rattle.counters.specs.Weights.{one_if, once, any_snoc, once-snoc, weighs}
 use Rattle.counters.specs.Counters.{number_asks, counters_of, counters, row_at}
 use Rattle.counters.specs.CounterLaws.{kept-counters, counters-kept}
@@ -224,3 +226,27 @@ module _ (values : Values) (clause : ℕ → List ℕ) {c : ℕ} {rows counts as
         → clause c ≡ words → counters rows' (set counts c n) (set asking (c / 64) (a + low)) ≡ counters_of values clause (c + 1)
     entered-as q e same =
         kept-counters values clause (c + 1) (rw (q, is, one_shifted 64 (c % 64) (omega arith)) (kept-entered kept few (rw (← same) at e)))
+
+-- ── a clause in its arrays ──
+
+-- the words from a place up to another
+abbrev pub part : List ℕ → ℕ → ℕ → List ℕ
+part literals from i = take (i - from) (drop from literals)
+
+pub part-start : (literals : List ℕ) (from : ℕ) → [] ≡ part literals from from
+part-start literals from = sym (part-nil literals from from (omega arith))
+
+module _ {starts literals heads : List ℕ} {given clauses : ℕ} (fit : ClausesFit starts literals heads given clauses) (c : ℕ) (l : c < clauses)
+    {from end : ℕ} (is : from ≡ get_or starts c 0) (to : end ≡ get_or starts (c + 1) 0) where
+  pub clause-inside : (from ≤ end) × (end ≤ literal_array) × (c < 640) × ((i : ℕ) → i < end → get_or literals i 0 < 512)
+  clause-inside =
+      let a = fit.rising c l in
+      let b = fit.inside (c + 1) (omega arith) in
+      let m = fit.limit in
+      let up = get_d-rising starts clauses fit.rising (c + 1) (omega arith) in
+      (omega arith, omega arith, omega arith, λ i k. fit.words i (omega arith))
+
+pub clause-part : (starts literals : List ℕ) (c : ℕ) {from end : ℕ} → from ≡ get_or starts c 0 → end ≡ get_or starts (c + 1) 0
+    → clause_at starts literals c ≡ part literals from end
+unfolding clause_at
+clause-part starts literals c is to = rw (is, to)

@@ -1,4 +1,6 @@
 // Setting and undoing a literal: the counters of the clauses that hold it or its negation. The values are set elsewhere.
+// That there are at most 640 clauses and that the counters fit is asked in each: how many clauses there are, and the values and clauses that the
+// counters are of, are no fields of `Counters`, so no clause of the struct can speak of them. A literal is a plain word, so its bound is asked too.
 ghost use Rattle.std.specs.Prelude.{◌≡◌, ◌+◌, ◌-◌, ◌/◌, ◌≤◌, ◌<◌, take, drop};
 ghost use Rattle.encoding.specs.Values.{Values, assigned, unassigned};
 ghost use Rattle.units.specs.TrailWords.{cleared};
@@ -13,7 +15,8 @@ impl Counters {
     // The literal of an unset atom becomes true.
     pub fn set(&mut self, clauses: usize, w: u16)
         requires { (w < 512) × (clauses ≤ 640) × ((values : Values) × IsUnset values w × CountersFit values ((clauses + 63) / 64) self.old) }
-        ensures { (values : Values) → IsUnset values w → StayKept ((clauses + 63) / 64) values self.old (assigned values w) self.new }
+        ensures rows { self.new.rows ≡ self.old.rows }
+        ensures kept { (values : Values) → IsUnset values w → StayKept ((clauses + 63) / 64) values self.old (assigned values w) self.new }
     {
         let words = (clauses + 63) / 64;
         let other = values::other_sign(w);
@@ -24,7 +27,8 @@ impl Counters {
     // The literal of an atom that is set as it says becomes unset.
     pub fn undo(&mut self, clauses: usize, w: u16)
         requires { (w < 512) × (clauses ≤ 640) × ((values : Values) × IsSet values w × CountersFit values ((clauses + 63) / 64) self.old) }
-        ensures { (values : Values) → IsSet values w → StayKept ((clauses + 63) / 64) values self.old (unassigned values w) self.new }
+        ensures rows { self.new.rows ≡ self.old.rows }
+        ensures kept { (values : Values) → IsSet values w → StayKept ((clauses + 63) / 64) values self.old (unassigned values w) self.new }
     {
         let words = (clauses + 63) / 64;
         let other = values::other_sign(w);
@@ -32,11 +36,12 @@ impl Counters {
         self.over_row(w, words, 0, 256);
     }
 
-    // Undoes the entries of the trail from one place up to another.
+    // Undoes the entries of the trail from one place up to another, n: no slice of them, since what is asked of them is said by their places.
     pub fn undo_entries(&mut self, clauses: usize, trail: &Trail, from: usize, n: usize)
         requires { (from ≤ n) × (n ≤ 256) × (clauses ≤ 640)
             × ((values : Values) × Undoable values trail.now.words from n × CountersFit values ((clauses + 63) / 64) self.old) }
-        ensures { (values : Values) → Undoable values trail.now.words from n
+        ensures rows { self.new.rows ≡ self.old.rows }
+        ensures kept { (values : Values) → Undoable values trail.now.words from n
             → StayKept ((clauses + 63) / 64) values self.old (cleared values (take (n - from) (drop from trail.now.words))) self.new }
     {
         for at in from..n {

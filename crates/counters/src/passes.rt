@@ -16,8 +16,7 @@ pub fn asking_bit(n: u32, bit: u64) -> u64
     if n <= 1 { bit } else { 0 }
 }
 
-// Changes the numbers of the clauses that are bits of word k, and gives those that ask then. It goes from bit to bit by the low zeros, which
-// no iterator does.
+// Changes the numbers of the clauses that are bits of word k, and gives those that ask then. The bits are taken one by one, as `bits::lowest` says.
 fn over_word(counts: &mut [u32; PLACES], k: usize, bits: u64, up: u32, down: u32) -> u64
     requires { (k < 10) × (bits < 2 ^ 64) × (length counts.old ≡ 640) × WordFits k bits up down counts.old }
     ensures { WordMoved k bits result up down counts.old counts.new }

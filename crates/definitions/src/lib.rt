@@ -38,7 +38,7 @@ impl From<Question> for u8 {
     }
 }
 
-// Which question was answered no, and at which line: 0 where it is asked of the call.
+// Which question was answered no, by its number, since document 01 and C have the number; and at which line: 0 where it is asked of the call.
 #[derive(Clone, Copy, Drop)]
 pub struct Refusal {
     pub number: u8,

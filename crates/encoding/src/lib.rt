@@ -44,7 +44,7 @@ pub const LOGGED: usize = 512;
 
 // The lengths of the arrays: 22 words a rule; where each of 65 goal clauses and all logged ones starts, and where the last ends; their
 // literals, at most 520 and 4 a logged one; a place for each code of an atom, a symbol and three constants.
-pub const RULE_WORDS: usize = 22 * SEARCH_RULES;
+pub const RULE_WORDS: usize = RULE_SIZE * SEARCH_RULES;
 
 pub const STARTS: usize = 578;
 

@@ -1,5 +1,6 @@
 // The states of atoms by table position, and what they say of a literal: unset is 0, true 1 and false -1. They are kept in pairs of words, each
 // for 64 positions: which atoms are set, and which of them are true. The first pair has the goal atoms. Where a bit stands is this module's alone.
+// Literals stand as plain words in arrays, so that one is below 512 is asked where it is read.
 ghost use Rattle.std.specs.Prelude.{◌≡◌, ◌/◌, ◌<◌, ◌^◌, eqb};
 ghost use Rattle.encoding.specs.Values.{goals_set, bit_in, state_of, value_at, unset_at, word_sign, other_sign, literal_value, true_word, false_word, store_bit, put_state, assigned, unassigned};
 

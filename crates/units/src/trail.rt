@@ -23,7 +23,8 @@ impl From<Mark> for u8 {
     }
 }
 
-// The state of each position's atom, and of each entry of the trail its literal's word and why it was set.
+// The state of each position's atom, and of each entry of the trail its literal's word and why it was set. The marks are numbers, not `Mark`s,
+// since what holds of a trail, `TrailStands`, is said of their numbers, and any number may be put.
 #[derive(Clone, Copy, Drop)]
 pub struct Trail {
     pub values: Values,
@@ -32,15 +33,23 @@ pub struct Trail {
 }
 
 impl Trail {
-    // Sets a literal, with why it is set, behind the first n entries.
+    // Sets a literal behind the first n entries, with the number by which the trail notes why. Any number is taken.
     #[tactic(auto, unfolding(crate::specs::TrailArrays::set_at))]
+    pub fn put(&mut self, n: usize, w: u16, mark: u8)
+        requires { (n < 256) × (w < 512) }
+        ensures { self.new ≡ set_at n w mark self.old }
+    {
+        values::assign(&mut self.values, w);
+        self.words[n] = w;
+        self.marks[n] = mark;
+    }
+
+    // Sets a literal, with why it is set, behind the first n entries.
     pub fn set(&mut self, n: usize, w: u16, why: Mark)
         requires { (n < 256) × (w < 512) }
         ensures { self.new ≡ set_at n w (mark_number why) self.old }
     {
-        values::assign(&mut self.values, w);
-        self.words[n] = w;
-        self.marks[n] = u8::from(why);
+        self.put(n, w, u8::from(why));
     }
 
     // The place of the latest decision that stands at true, among the first n entries.

@@ -10,5 +10,5 @@ pub over_row-requires-2 : goal.over_row-requires-2
 over_row-requires-2 c =
     undo-fits-2 _ c.requires.0 _ (omega arith) c.other_sign-other.ensures _ c.requires.2.1 c.requires.2.2 c.over_row.ensures
 
-pub returns : goal.returns
-returns c = λ values set. undo-kept _ c.requires.0 _ (omega arith) c.other_sign-other.ensures values set c.over_row.ensures c.over_row-2.ensures
+pub returns-clause-kept : goal.returns-clause-kept
+returns-clause-kept c = λ values set. undo-kept _ c.requires.0 _ (omega arith) c.other_sign-other.ensures values set c.over_row.ensures c.over_row-2.ensures
