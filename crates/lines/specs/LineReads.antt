@@ -53,7 +53,7 @@ unfoldable pub counts_of : ℕ → ℕ → List Number → Parsed RuleCounts
 counts_of h b ns = record { found = record { heads = h; body = b }; left = ns }
 
 abbrev pub CountsRead : Asked (Parsed RuleCounts) → Result one.RuleCounts Question → List ℕ → List Number → Type 0
-CountsRead (no q) r line left = Refuses r q
+CountsRead (no q) r line left = Refuses r q × (q ≡ 8)
 CountsRead (yes w) r line left =
     (r ≡ Ok (record { heads = w.found.heads; body = w.found.body })) × (w.left ≡ left) × (3 ≤ length line) × (w.found.heads + w.found.body ≤ 5)
 
@@ -75,7 +75,7 @@ unfoldable pub two_way_counts_of : ℕ → ℕ → ℕ → List Number → Parse
 two_way_counts_of k r b ns = record { found = record { kept = k; rewritten = r; body = b }; left = ns }
 
 abbrev pub TwoWayCountsRead : Asked (Parsed TwoWayCounts) → Result two.TwoWayCounts Question → List ℕ → List Number → Type 0
-TwoWayCountsRead (no q) r line left = Refuses r q
+TwoWayCountsRead (no q) r line left = Refuses r q × (q ≡ 8)
 TwoWayCountsRead (yes w) r line left =
     (r ≡ Ok (record { kept = w.found.kept; rewritten = w.found.rewritten; body = w.found.body })) × (w.left ≡ left) × (4 ≤ length line)
     × (w.found.kept + w.found.rewritten ≤ 3) × (w.found.body ≤ 2)

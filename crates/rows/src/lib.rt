@@ -26,6 +26,12 @@ pub enum Kind {
 }
 
 impl Kind {
+    pub fn number(self) -> usize
+        ensures { result ≡ number_of_kind self }
+    {
+        self as usize
+    }
+
     #[tactic(auto, unfolding(crate::specs::Kinds::kind_numbered))]
     fn of_number(number: usize) -> Option<Kind>
         ensures { result ≡ kind_numbered number }
@@ -48,7 +54,7 @@ impl Kind {
         match (before, self) {
             (0, Kind::Constants) => true,
             (0, _) | (_, Kind::Constants) => false,
-            (before, kind) => rank(before) <= rank(kind as usize),
+            (before, kind) => rank(before) <= rank(kind.number()),
         }
     }
 }
@@ -58,7 +64,7 @@ impl Kind {
 fn rank(kind: usize) -> usize
     ensures { result ≡ rank kind }
 {
-    if kind == Kind::TwoWay as usize {
+    if kind == Kind::TwoWay.number() {
         return 3;
     }
     kind

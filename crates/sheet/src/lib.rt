@@ -78,7 +78,7 @@ pub fn read_sheet(
     if SHEET_BYTES < sheet.len() {
         return Err(refusal(Question::SheetLength, 0));
     }
-    if sheet.len() == 0 {
+    if sheet.is_empty() {
         return Err(refusal(Question::SheetFilled, 0));
     }
     let mut row = [0u16; COLUMNS];
@@ -92,10 +92,11 @@ pub fn read_sheet(
         atoms: 0,
         literals: 0,
     };
-    let mut before: Option<Kind> = None;
+    let mut before: usize = 0;
     let mut from: usize = 0;
     let mut line: u16 = 1;
     starts[0] = 0;
+    // Lines differ in length, so no range counts them.
     while from < sheet.len() {
         let end = rows::line_end(sheet, from);
         let LineStart { kind, filled } = rows::read_line(
@@ -114,7 +115,7 @@ pub fn read_sheet(
             index,
         )
         .map_err(|question| refusal(question, line))?;
-        before = Some(kind);
+        before = kind.number();
         from = end + 1;
         line += 1;
     }
