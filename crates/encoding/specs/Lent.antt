@@ -26,6 +26,10 @@ ValueArray = MutBor Values
 abbrev pub LentValues : Type 0
 LentValues = Both ValueArray ValueArray
 
+-- the atom table likewise
+abbrev pub LentTable : Type 0
+LentTable = Both (MutBor AtomTable) (MutBor AtomTable)
+
 -- how what is left stands to what was lent, and that it is made of it by a function
 abbrev pub Leaves : {A : Type 0} → (A → A → Type 0) → Both A A → Type 0
 Leaves R x = R x.entry x.exit
@@ -50,9 +54,9 @@ lent_store starts literals heads numbers =
       exit = clause_store starts.exit.now literals.exit.now heads.exit.now numbers.exit.now;
     }
 
-abbrev pub lent_arrays : Lent → Lent → Lent → Lent → Lent → Lent → Both Arrays Arrays
-lent_arrays arities rules starts literals table index =
+abbrev pub lent_arrays : Lent → Lent → Lent → Lent → LentTable → Both Arrays Arrays
+lent_arrays arities rules starts literals table =
     record {
-      entry = arrays arities.entry.now rules.entry.now starts.entry.now literals.entry.now table.entry.now index.entry.now;
-      exit = arrays arities.exit.now rules.exit.now starts.exit.now literals.exit.now table.exit.now index.exit.now;
+      entry = arrays arities.entry.now rules.entry.now starts.entry.now literals.entry.now table.entry.now.codes table.entry.now.index;
+      exit = arrays arities.exit.now rules.exit.now starts.exit.now literals.exit.now table.exit.now.codes table.exit.now.index;
     }

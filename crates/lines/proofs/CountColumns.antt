@@ -5,7 +5,7 @@ use Rattle.std.proofs.Math.ListN.{length-drop, length-map}
 use Rattle.std.proofs.Math.Seq.{take_all}
 use Rattle.definitions.specs.Lists.{is_empty}
 use Rattle.definitions.specs.Sheet.{Number}
-use Rattle.definitions.specs.Questions.{no, yes, ◌>>◌, ask, within, count}
+use Rattle.definitions.specs.Questions.{no, ◌>>◌, ask, within, count}
 use Rattle.definitions.specs.Numbered.{question_number}
 use Rattle.definitions.specs.declared.Question.{Question}
 use Rattle.theory.specs.Tests.{by-test}

@@ -9,7 +9,7 @@ use Rattle.theory.specs.ListLaws.{Each}
 use Rattle.encoding.specs.Slots.{as_pattern, slot_words, rule_words}
 use Rattle.encoding.specs.SlotLaws.{InSlot}
 use Rattle.literals.specs.Entering.{Entered, entered, enter_slots}
-use Rattle.encoding.specs.Lent.{Lent}
+use Rattle.encoding.specs.Lent.{Lent, LentTable}
 use Rattle.encoding.specs.declared.Sizes.{Sizes}
 use Rattle.definitions.specs.Numbered.{question_number}
 use Rattle.definitions.specs.declared.Question.{Question}
@@ -119,9 +119,9 @@ abbrev pub ClauseRead : Asked Clause → Result Sizes Question → Sizes → Lis
 ClauseRead (no q) r s starts₀ starts₁ literals₀ literals₁ table₀ table₁ index₀ index₁ = Refuses r q
 ClauseRead (yes c) r s starts₀ starts₁ literals₀ literals₁ table₀ table₁ index₀ index₁ = ClauseHeld c r s starts₀ starts₁ literals₀ literals₁ table₀ table₁ index₀ index₁
 
-abbrev pub ClauseReads : Asked Clause → Result Sizes Question → Sizes → Lent → Lent → Lent → Lent → Type 0
-ClauseReads asked r s starts literals table index =
-    ClauseRead asked r s starts.entry.now starts.exit.now literals.entry.now literals.exit.now table.entry.now table.exit.now index.entry.now index.exit.now
+abbrev pub ClauseReads : Asked Clause → Result Sizes Question → Sizes → Lent → Lent → LentTable → Type 0
+ClauseReads asked r s starts literals table =
+    ClauseRead asked r s starts.entry.now starts.exit.now literals.entry.now literals.exit.now table.entry.now.codes table.exit.now.codes table.entry.now.index table.exit.now.index
 
 -- what the readers ask of the sizes, the declared arities and the index: that they keep the limits
 pub record Ready (s : Sizes) (arities index₀ : List ℕ) : Type 0 where

@@ -37,7 +37,7 @@ returns-in_err-s c =
     in
     let after = c.line_of_kind.new in
     let (q, is, same) = mapped-err c.line_of_kind.result c.map_err-in-loop-from.result c.loop-from.line _ c.map_err-in-loop-from.ensures.cases (λ q d h. grind (arith, common_steps)) c.in_err-s.was in
-    rw (line-stop c.loop-from.invariant line (mapped-ok _ _ c.loop-from.line _ c.map_err.ensures.cases c.in_ok-kind.was) _ (arrays after.arities after.rules after.starts after.literals after.table after.index) c.line_of_kind.ensures is, handed _ _ c.from_residual-in_err-s.ensures.1) (ap Err same)
+    rw (line-stop c.loop-from.invariant line (mapped-ok _ _ c.loop-from.line _ c.map_err.ensures.cases c.in_ok-kind.was) _ (arrays after.arities after.rules after.starts after.literals after.table.codes after.table.index) c.line_of_kind.ensures is, handed _ _ c.from_residual-in_err-s.ensures.1) (ap Err same)
 
 pub overflow_add-from : goal.overflow_add-from
 overflow_add-from c =
@@ -49,7 +49,7 @@ loop-from-preserved c =
     record { more = c.loop-from-test.true; ends = c.line_end-end.ensures; asked = c.read_line.ensures.reads }
     in
     let after = c.line_of_kind.new in
-    rw c.number-before.ensures (reached-next c.loop-from.invariant line (mapped-ok _ _ c.loop-from.line _ c.map_err.ensures.cases c.in_ok-kind.was) _ (arrays after.arities after.rules after.starts after.literals after.table after.index) c.line_of_kind.ensures
+    rw c.number-before.ensures (reached-next c.loop-from.invariant line (mapped-ok _ _ c.loop-from.line _ c.map_err.ensures.cases c.in_ok-kind.was) _ (arrays after.arities after.rules after.starts after.literals after.table.codes after.table.index) c.line_of_kind.ensures
     (mapped-ok _ _ c.loop-from.line _ c.map_err-in-loop-from.ensures.cases c.in_ok-s.was))
 
 pub returns : goal.returns
