@@ -33,10 +33,7 @@ fn digit(number: Number, b: u8) -> Result<Scan, Question>
     requires { number.size ≤ 999 }
     ensures { ReadAs (λ rest. digits number.negative number.size (b ∷ rest)) number.size result }
 {
-    if b < b'0' {
-        return Err(Question::Columns);
-    }
-    if b'9' < b {
+    if b < b'0' || b'9' < b {
         return Err(Question::Columns);
     }
     Ok(Scan::Digits(Number {

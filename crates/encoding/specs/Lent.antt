@@ -14,6 +14,10 @@ Array = MutBor (List ℕ)
 abbrev pub Lent : Type 0
 Lent = Both Array Array
 
+-- the atom table likewise
+abbrev pub LentTable : Type 0
+LentTable = Both (MutBor AtomTable) (MutBor AtomTable)
+
 -- how what is left stands to what was lent
 abbrev pub Leaves : {A : Type 0} → (A → A → Type 0) → Both A A → Type 0
 Leaves R x = R x.entry x.exit
@@ -28,9 +32,9 @@ atom_table codes index = record { codes = codes; index = index }
 
 -- ── lent ──
 
-abbrev pub lent_arrays : Lent → Lent → Lent → Lent → Lent → Lent → Both Arrays Arrays
-lent_arrays arities rules starts literals table index =
+abbrev pub lent_arrays : Lent → Lent → Lent → Lent → LentTable → Both Arrays Arrays
+lent_arrays arities rules starts literals table =
     record {
-      entry = arrays arities.entry.now rules.entry.now starts.entry.now literals.entry.now table.entry.now index.entry.now;
-      exit = arrays arities.exit.now rules.exit.now starts.exit.now literals.exit.now table.exit.now index.exit.now;
+      entry = arrays arities.entry.now rules.entry.now starts.entry.now literals.entry.now table.entry.now.codes table.entry.now.index;
+      exit = arrays arities.exit.now rules.exit.now starts.exit.now literals.exit.now table.exit.now.codes table.exit.now.index;
     }

@@ -4,8 +4,11 @@ use Rattle.std.proofs.Common.{arith, ap, ◌∙◌, refl}
 use Rattle.std.proofs.Math.ListN.{length-drop, length-map}
 use Rattle.std.proofs.Math.Seq.{take_all}
 use Rattle.definitions.specs.Lists.{is_empty}
+use Rattle.definitions.specs.Sheet.{Number}
+use Rattle.definitions.specs.Questions.{no, ◌>>◌, ask, within, count}
 use Rattle.definitions.specs.Numbered.{question_number}
 use Rattle.definitions.specs.declared.Question.{Question}
+use Rattle.theory.specs.Tests.{by-test}
 use Rattle.theory.specs.ListLaws.{none-empty, some-full}
 use Rattle.encoding.specs.Signs.{number_of}
 use Rattle.lines.specs.LineReads.{Refuses}
@@ -30,3 +33,9 @@ words-from i line = ap (map number_of) (take_all (length line - i) (drop i line)
 pub handed : {A : Type 0} (r : Result A Question) (e : Question) → IsErrAnd r (λ d. d ≡ e) → {q : ℕ} → question_number e ≡ q → Refuses r q
 handed (Ok x) e same n = absurd same
 handed (Err d) e same n = ap question_number same ∙ n
+
+-- a count is refused by the question that it belongs to
+pub count-refused : {p q : ℕ} (low high : ℕ) (ns : List Number) → count p low high ns ≡ no q → q ≡ p
+unfolding count ask ◌>>◌
+count-refused low high [] e = cc
+count-refused low high (n ∷ ns) e = by-test (within low high n) (λ t. cc) (λ t. cc)

@@ -9,7 +9,7 @@ use Rattle.theory.specs.ListLaws.{Each}
 use Rattle.encoding.specs.Slots.{as_pattern, slot_words, rule_words}
 use Rattle.encoding.specs.SlotLaws.{InSlot}
 use Rattle.literals.specs.Entering.{Entered, entered, enter_slots}
-use Rattle.encoding.specs.Lent.{Lent}
+use Rattle.encoding.specs.Lent.{Lent, LentTable}
 use Rattle.encoding.specs.declared.Sizes.{Sizes}
 use Rattle.definitions.specs.Numbered.{question_number}
 use Rattle.definitions.specs.declared.Question.{Question}
@@ -53,7 +53,7 @@ unfoldable pub counts_of : ℕ → ℕ → List Number → Parsed RuleCounts
 counts_of h b ns = record { found = record { heads = h; body = b }; left = ns }
 
 abbrev pub CountsRead : Asked (Parsed RuleCounts) → Result one.RuleCounts Question → List ℕ → List Number → Type 0
-CountsRead (no q) r line left = Refuses r q
+CountsRead (no q) r line left = Refuses r q × (q ≡ 8)
 CountsRead (yes w) r line left =
     (r ≡ Ok (record { heads = w.found.heads; body = w.found.body })) × (w.left ≡ left) × (3 ≤ length line) × (w.found.heads + w.found.body ≤ 5)
 
@@ -75,7 +75,7 @@ unfoldable pub two_way_counts_of : ℕ → ℕ → ℕ → List Number → Parse
 two_way_counts_of k r b ns = record { found = record { kept = k; rewritten = r; body = b }; left = ns }
 
 abbrev pub TwoWayCountsRead : Asked (Parsed TwoWayCounts) → Result two.TwoWayCounts Question → List ℕ → List Number → Type 0
-TwoWayCountsRead (no q) r line left = Refuses r q
+TwoWayCountsRead (no q) r line left = Refuses r q × (q ≡ 8)
 TwoWayCountsRead (yes w) r line left =
     (r ≡ Ok (record { kept = w.found.kept; rewritten = w.found.rewritten; body = w.found.body })) × (w.left ≡ left) × (4 ≤ length line)
     × (w.found.kept + w.found.rewritten ≤ 3) × (w.found.body ≤ 2)
@@ -119,9 +119,9 @@ abbrev pub ClauseRead : Asked Clause → Result Sizes Question → Sizes → Lis
 ClauseRead (no q) r s starts₀ starts₁ literals₀ literals₁ table₀ table₁ index₀ index₁ = Refuses r q
 ClauseRead (yes c) r s starts₀ starts₁ literals₀ literals₁ table₀ table₁ index₀ index₁ = ClauseHeld c r s starts₀ starts₁ literals₀ literals₁ table₀ table₁ index₀ index₁
 
-abbrev pub ClauseReads : Asked Clause → Result Sizes Question → Sizes → Lent → Lent → Lent → Lent → Type 0
-ClauseReads asked r s starts literals table index =
-    ClauseRead asked r s starts.entry.now starts.exit.now literals.entry.now literals.exit.now table.entry.now table.exit.now index.entry.now index.exit.now
+abbrev pub ClauseReads : Asked Clause → Result Sizes Question → Sizes → Lent → Lent → LentTable → Type 0
+ClauseReads asked r s starts literals table =
+    ClauseRead asked r s starts.entry.now starts.exit.now literals.entry.now literals.exit.now table.entry.now.codes table.exit.now.codes table.entry.now.index table.exit.now.index
 
 -- what the readers ask of the sizes, the declared arities and the index: that they keep the limits
 pub record Ready (s : Sizes) (arities index₀ : List ℕ) : Type 0 where

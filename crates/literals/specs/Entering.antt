@@ -2,7 +2,7 @@
 use Rattle.std.specs.Prelude.{ℕ, zero, suc, ◌+◌, ◌-◌, ◌*◌, ◌/◌, ◌%◌, ◌≤◌, ◌<◌, ◌≡◌, true, false, List, eqb, get_or, set}
 use denote.Triple.Both.{Both}
 use Rattle.encoding.specs.Encoding.{code_of}
-use Rattle.encoding.specs.Lent.{Lent}
+use Rattle.encoding.specs.Lent.{Lent, LentTable}
 
 -- a slot of a clause: its symbol is one of 16, and no term is above constant 32
 pub record ClauseSlot (slots : List ℕ) (base : ℕ) : Type 0 where
@@ -46,11 +46,11 @@ enter_slots slots i zero e = e
 enter_slots slots i (suc n) e = enter_slots slots (i + 1) n (enter_literal (slot_code slots (4 * i)) (get_or slots (4 * i) 0 % 2) e)
 
 -- lent: the arrays by both counts, and what a function that enters literals leaves there
-abbrev pub lent_entered : Lent → Lent → Lent → Both (ℕ → ℕ → Entered) (ℕ → ℕ → Entered)
-lent_entered literals table index =
+abbrev pub lent_entered : Lent → LentTable → Both (ℕ → ℕ → Entered) (ℕ → ℕ → Entered)
+lent_entered literals table =
     record {
-      entry = λ atoms count. entered atoms count literals.entry.now table.entry.now index.entry.now;
-      exit = λ atoms count. entered atoms count literals.exit.now table.exit.now index.exit.now;
+      entry = λ atoms count. entered atoms count literals.entry.now table.entry.now.codes table.entry.now.index;
+      exit = λ atoms count. entered atoms count literals.exit.now table.exit.now.codes table.exit.now.index;
     }
 
 abbrev pub Enters : (Entered → Entered) → ℕ → ℕ → ℕ → ℕ → Both (ℕ → ℕ → Entered) (ℕ → ℕ → Entered) → Type 0

@@ -43,8 +43,7 @@ pub fn search_sheet(sheet: &[u8], budget: u32) -> Result<Searched, Refusal>
         &mut rules,
         &mut machine.store.starts,
         &mut machine.store.literals,
-        &mut machine.table.codes,
-        &mut machine.table.index,
+        &mut machine.table,
     )?;
     let ended = search::search(sizes, budget, &rules, &mut machine);
     Ok(Searched {

@@ -26,6 +26,12 @@ pub enum Kind {
 }
 
 impl Kind {
+    pub fn number(self) -> usize
+        ensures { result ≡ number_of_kind self }
+    {
+        self as usize
+    }
+
     #[tactic(auto, unfolding(crate::specs::Kinds::kind_numbered))]
     fn of_number(number: usize) -> Option<Kind>
         ensures { result ≡ kind_numbered number }
@@ -40,28 +46,28 @@ impl Kind {
         }
     }
 
-    // Its rank among the lines: a two-way rule stands among the rules.
-    #[tactic(auto, unfolding(definitions::specs::Questions::rank))]
-    fn rank(self) -> usize
-        ensures { result ≡ rank (number_of_kind self) }
-    {
-        match self {
-            Kind::TwoWay => 3,
-            kind => kind as usize,
-        }
-    }
-
-    // Whether a line of this kind may stand behind one of kind `before`, or as the first line.
+    // Whether a line of this kind may stand behind one of the kind with the number `before`, or as the first line, with 0.
     #[tactic(auto, unfolding(crate::specs::Rows::kind_here, definitions::specs::Questions::within, definitions::specs::Questions::rank, definitions::specs::Sheet::plus))]
-    fn may_follow(self, before: Option<Kind>) -> bool
-        ensures { kind_if result self ≡ kind_here (kind_number before) (plus (number_of_kind self)) }
+    fn may_follow(self, before: usize) -> bool
+        ensures { kind_if result self ≡ kind_here before (plus (number_of_kind self)) }
     {
         match (before, self) {
-            (None, Kind::Constants) => true,
-            (None, _) | (Some(_), Kind::Constants) => false,
-            (Some(before), kind) => before.rank() <= kind.rank(),
+            (0, Kind::Constants) => true,
+            (0, _) | (_, Kind::Constants) => false,
+            (before, kind) => rank(before) <= rank(kind.number()),
         }
     }
+}
+
+// The rank among the lines of a kind, by its number: a two-way rule stands among the rules.
+#[tactic(auto, unfolding(definitions::specs::Questions::rank))]
+fn rank(kind: usize) -> usize
+    ensures { result ≡ rank kind }
+{
+    if kind == Kind::TwoWay.number() {
+        return 3;
+    }
+    kind
 }
 
 // The start of a line: its kind, and how many columns are filled.
@@ -134,8 +140,8 @@ pub fn count(line: &[u16], column: usize, low: usize, high: usize) -> Result<usi
 }
 
 // Question 7: the kind of a line by its first number, if one is that may stand here.
-fn kind_here(before: Option<Kind>, word: u16) -> Option<Kind>
-    ensures { kind_number result ≡ kind_here (kind_number before) (number_of word) }
+fn kind_here(before: usize, word: u16) -> Option<Kind>
+    ensures { kind_number result ≡ kind_here before (number_of word) }
 {
     if word % 2 == 1 {
         return None;
@@ -148,8 +154,8 @@ fn kind_here(before: Option<Kind>, word: u16) -> Option<Kind>
 }
 
 // The same by all its numbers: a line of blanks has none, and so no kind.
-fn row_kind(before: Option<Kind>, line: &[u16]) -> Option<Kind>
-    ensures { kind_number result ≡ row_kind (kind_number before) (map number_of line.now) }
+fn row_kind(before: usize, line: &[u16]) -> Option<Kind>
+    ensures { kind_number result ≡ row_kind before (map number_of line.now) }
 {
     match line {
         [] => None,
@@ -157,16 +163,17 @@ fn row_kind(before: Option<Kind>, line: &[u16]) -> Option<Kind>
     }
 }
 
-// Questions 4 to 7 of the line that ends here, behind one of kind `before`.
+// Questions 4 to 7 of the line that ends here, behind one of the kind with the number `before`, or as the first line, with 0.
+// `before` stays a number: the contract speaks of any (docs/PROMISES.md), and 5, say, which is no kind's, lets nothing follow.
 pub fn read_line(
     sheet: &[u8],
     from: usize,
     end: usize,
-    before: Option<Kind>,
+    before: usize,
     row: &mut [u16; COLUMNS],
 ) -> Result<LineStart, Question>
     requires { (from ≤ end) × (end ≤ length sheet.now) }
-    ensures reads { start_of (kind_number before) (line_at sheet.now from end) ≡ start_asked result row.new }
+    ensures reads { start_of before (line_at sheet.now from end) ≡ start_asked result row.new }
     ensures fits { IfOk result (λ s. s.filled ≤ 34) }
 {
     if end == sheet.len() {

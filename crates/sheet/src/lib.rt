@@ -12,7 +12,7 @@ ghost use Rattle.lines.specs.LineReads.{Ready};
 ghost use Rattle.sheet.specs.LineHolds.{LineHeld, SheetRead};
 
 use definitions::{Question, Refusal};
-use encoding::{ATOMS, CODES, COLUMNS, LITERALS, RULE_WORDS, SLOTS, STARTS, SYMBOLS, Sizes};
+use encoding::{AtomTable, COLUMNS, LITERALS, RULE_WORDS, SLOTS, STARTS, SYMBOLS, Sizes};
 use rows::{Kind, LineStart};
 
 // The most bytes of a sheet.
@@ -27,7 +27,7 @@ fn refusal(question: Question, line: u16) -> Refusal
     }
 }
 
-// Questions 8 to 14 of a line of its kind.
+// Questions 8 to 14 of a line of its kind. Each kind takes its own few of the arrays: a struct of them for this one call is no plainer.
 fn line_of_kind(
     kind: Kind,
     line: &[u16],
@@ -37,11 +37,10 @@ fn line_of_kind(
     rules: &mut [u16; RULE_WORDS],
     starts: &mut [u16; STARTS],
     literals: &mut [u16; LITERALS],
-    table: &mut [u32; ATOMS],
-    index: &mut [u16; CODES],
+    table: &mut AtomTable,
 ) -> Result<Sizes, Question>
-    requires { Ready s (take s.symbols arities.old) index.old }
-    ensures { Leaves (LineHeld (number_of_kind kind) (drop 1 (map number_of line.now)) result s) (lent_arrays arities rules starts literals table index) }
+    requires { Ready s (take s.symbols arities.old) table.old.index }
+    ensures { Leaves (LineHeld (number_of_kind kind) (drop 1 (map number_of line.now)) result s) (lent_arrays arities rules starts literals table) }
 {
     match kind {
         Kind::Constants => lines::constants_line(line, s),
@@ -56,12 +55,12 @@ fn line_of_kind(
             starts,
             literals,
             table,
-            index,
         ),
     }
 }
 
-// Reads a sheet into the arrays. The index must be empty; the others may hold anything, and keep it behind what is read.
+// Reads a sheet into the arrays. The table's index must be empty; the others may hold anything, and keep it behind what is read.
+// Of the clause store it is lent the starts and the literals: a sheet fills no more of it.
 // After a refusal the arrays hold what had been read; document 01 leaves that free, and nothing is said of it.
 pub fn read_sheet(
     sheet: &[u8],
@@ -69,16 +68,15 @@ pub fn read_sheet(
     rules: &mut [u16; RULE_WORDS],
     starts: &mut [u16; STARTS],
     literals: &mut [u16; LITERALS],
-    table: &mut [u32; ATOMS],
-    index: &mut [u16; CODES],
+    table: &mut AtomTable,
 ) -> Result<Sizes, Refusal>
-    requires { index.old ≡ empty_index }
-    ensures { Leaves (SheetRead (read sheet.now) result) (lent_arrays arities rules starts literals table index) }
+    requires { table.old.index ≡ empty_index }
+    ensures { Leaves (SheetRead (read sheet.now) result) (lent_arrays arities rules starts literals table) }
 {
     if SHEET_BYTES < sheet.len() {
         return Err(refusal(Question::SheetLength, 0));
     }
-    if sheet.len() == 0 {
+    if sheet.is_empty() {
         return Err(refusal(Question::SheetFilled, 0));
     }
     let mut row = [0u16; COLUMNS];
@@ -92,10 +90,11 @@ pub fn read_sheet(
         atoms: 0,
         literals: 0,
     };
-    let mut before: Option<Kind> = None;
+    let mut before: usize = 0;
     let mut from: usize = 0;
     let mut line: u16 = 1;
     starts[0] = 0;
+    // Lines differ in length, so no range counts them.
     while from < sheet.len() {
         let end = rows::line_end(sheet, from);
         let LineStart { kind, filled } = rows::read_line(
@@ -111,10 +110,9 @@ pub fn read_sheet(
             starts,
             literals,
             table,
-            index,
         )
         .map_err(|question| refusal(question, line))?;
-        before = Some(kind);
+        before = kind.number();
         from = end + 1;
         line += 1;
     }
