@@ -5,7 +5,7 @@ use Rattle.definitions.specs.Words.{Problem}
 use Rattle.definitions.specs.Search.{State, Outcome, more, done, search}
 use Rattle.definitions.specs.declared.Verdict.{Verdict}
 use Rattle.theory.specs.Limits.{Searchable}
-use Rattle.encoding.specs.Lent.{atom_table}
+use Rattle.encoding.specs.Lent.{clause_store, atom_table}
 use Rattle.units.specs.TrailArrays.{trail_arrays}
 use Rattle.machine.specs.Machine.{StandsAtEnd, EndStands}
 use Rattle.machine.specs.declared.Machine.{Machine}
@@ -17,10 +17,11 @@ pub record Finished (p : Problem) (budget : ℕ) (s : State) (x : Searched) : Ty
   pub limits : Searchable p
   pub its_arities : (i : ℕ) → i < length p.arities → get_or x.arities i 0 ≡ get_or p.arities i 0
   pub its_clauses : x.given ≡ length p.clauses
+  pub heads : List ℕ
   pub index : List ℕ
   pub trail : List ℕ
   pub marks : List ℕ
-  pub stands : StandsAtEnd p budget x.ended.verdict s (record { store = x.store; table = atom_table x.codes index; trail = trail_arrays x.values trail marks }) x.ended.run
+  pub stands : StandsAtEnd p budget x.ended.verdict s (record { store = clause_store x.store.starts x.store.literals heads x.store.numbers; table = atom_table x.codes index; trail = trail_arrays x.values trail marks }) x.ended.run
 
 -- what the search came to, with what is left of it
 pub record AtEnd (p : Problem) (budget : ℕ) (x : Searched) : Type 0 where
@@ -48,6 +49,7 @@ at-end p budget ended m given arities limits its_arities its_clauses ends = from
             limits = limits;
             its_arities = its_arities;
             its_clauses = its_clauses;
+            heads = m.store.heads;
             index = m.table.index;
             trail = m.trail.words;
             marks = m.trail.marks;
