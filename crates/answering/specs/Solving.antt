@@ -5,6 +5,17 @@ use Rattle.definitions.specs.declared.Refusal.{Refusal}
 use Rattle.definitions.specs.declared.Answer.{Answer}
 use Rattle.definitions.specs.declared.Answer.TheVariants.{Refused, Answered}
 use Rattle.answering.specs.declared.Solved.{Solved}
+use Rattle.answering.specs.declared.SolvedExport.{SolvedExport}
+
+-- what an export made, by the room: its listing,
+abbrev pub listing_in : Returned SolvedExport Refusal → Returned Solved Refusal
+listing_in (Ok solved) = Ok (record { counts = solved.counts; length = solved.listing })
+listing_in (Err refusal) = Err refusal
+
+-- and its text
+abbrev pub text_in : Returned SolvedExport Refusal → Returned Solved Refusal
+text_in (Ok solved) = Ok (record { counts = solved.counts; length = solved.text })
+text_in (Err refusal) = Err refusal
 
 -- the answer
 abbrev pub answer_in : Returned Solved Refusal → Answer

@@ -1,5 +1,5 @@
 -- From what the pipe leaves to the result of a sheet that is lent room enough: listing and text fit, a refusal writes nothing. Assumes nothing.
-use Rattle.std.specs.Prelude.{ℕ, ◌-◌, ◌^◌, ◌≤◌, ◌<◌, ◌≡◌, refl, List, [], length, Ok, Err}
+use Rattle.std.specs.Prelude.{ℕ, ◌-◌, ◌^◌, ◌≤◌, ◌<◌, ◌≡◌, refl, List, [], length, Result as Returned, Ok, Err}
 use Rattle.std.proofs.Common.{ap, sym, ◌∙◌, arith}
 use Rattle.std.proofs.lemmas.List.Edits.{sets}
 use Rattle.definitions.specs.Bounds.{room_bytes, export_bytes}
@@ -24,6 +24,12 @@ use Rattle.listing.specs.Puts.{Put}
 use Rattle.cnf_writer.specs.CnfBytes.{cnf_bytes}
 use Rattle.cnf_writer.specs.CnfStands.{cnf-stands}
 use Rattle.answering.specs.Solving.{SolvedAs}
+use Rattle.answering.specs.declared.Solved.{Solved}
+
+-- nothing is written where there is nothing to write, whatever the room is
+pub no_text_lem : (came : Result) (room other : List ℕ) (r : Returned Solved Refusal) (last : List ℕ) → SolvedAs came [] room r last → SolvedAs came [] other r other
+unfolding written
+no_text_lem came room other r last h = record { answer = h.answer; size = h.size; stored = refl }
 
 -- ── a refusal ──
 
@@ -32,18 +38,20 @@ pub refusal-written : (q n : ℕ) (text room : List ℕ) → text ≡ [] → Sol
 unfolding answer_of written
 refusal-written q n text room none = rw none record { answer = refl; size = refl; stored = refl }
 
-module _ (sheet : List ℕ) (budget : ℕ) (f : Refusal) (reads : read sheet ≡ refused f.number f.line) where
-  pub refusal-listed : (room : List ℕ) → SolvedAs (answered (read sheet) budget) (listing_of (answered (read sheet) budget)) room (Err f) room
-  unfolding answered listing_of
-  refusal-listed room = rw (reads, answered) (refusal-written f.number f.line (listing_of (refusal f.number f.line)) room refl)
-
-  pub refusal-exported : (room : List ℕ) → SolvedAs (answered (read sheet) budget) (export_of (read sheet) (answered (read sheet) budget)) room (Err f) room
+module _ (sheet : List ℕ) (budget : ℕ) where
+  -- whatever is made of what a sheet comes to, if that is nothing of a refusal
+  pub refusal-solved : (made : Reading → Result → List ℕ) (q n : ℕ) → made (refused q n) (refusal q n) ≡ [] → read sheet ≡ refused q n → (room : List ℕ)
+      → SolvedAs (answered (read sheet) budget) (made (read sheet) (answered (read sheet) budget)) room (Err (record { number = q; line = n })) room
   unfolding answered
-  refusal-exported room =
-      rw (reads, answered) (refusal-written f.number f.line (export_of (refused f.number f.line) (refusal f.number f.line)) room (refused-text (refused f.number f.line) f.number f.line))
+  refusal-solved made q n none e room = rw (e, answered) (refusal-written q n (made (refused q n) (refusal q n)) room none)
 
-  pub refusal-unlisted : (room : List ℕ) → room ≡ written (listing_of (answered (read sheet) budget)) room
-  refusal-unlisted room = (refusal-listed room).stored
+  module _ (f : Refusal) (reads : read sheet ≡ refused f.number f.line) where
+    pub refusal-listed : (room : List ℕ) → SolvedAs (answered (read sheet) budget) (listing_of (answered (read sheet) budget)) room (Err f) room
+    unfolding listing_of
+    refusal-listed = refusal-solved (λ reading came. listing_of came) f.number f.line refl reads
+
+    pub refusal-exported : (room : List ℕ) → SolvedAs (answered (read sheet) budget) (export_of (read sheet) (answered (read sheet) budget)) room (Err f) room
+    refusal-exported = refusal-solved export_of f.number f.line (refused-text (refused f.number f.line) f.number f.line) reads
 
 -- ── what is made of a search that has ended ──
 
@@ -53,9 +61,12 @@ same-counts : (v : Verdict) {a b l m d e c f : ℕ} → a ≡ b → l ≡ m → 
 same-counts v p q r s = cc
 
 module _ (p : Problem) (budget : ℕ) (s : State) (x : Searched) (finished : Finished p budget s x) where
-  -- the counts are the search's
-  pub counts-stand : ◌≡◌ {A = Counts} (record { verdict = x.ended.verdict; atoms = x.ended.run.atoms; logged = x.ended.run.clauses - x.given; decisions = x.ended.run.decisions; conflicts = x.ended.run.conflicts })
-      (record_of x.ended.verdict s)
+  -- the counts of what is left
+  abbrev pub counts_left : Counts
+  counts_left = record { verdict = x.ended.verdict; atoms = x.ended.run.atoms; logged = x.ended.run.clauses - x.given; decisions = x.ended.run.decisions; conflicts = x.ended.run.conflicts }
+
+  -- are the search's
+  pub counts-stand : counts_left ≡ record_of x.ended.verdict s
   counts-stand =
       let stands = finished.stands in
       let logged : x.ended.run.clauses - x.given ≡ length s.log = omega (arith, stands.log.clauses, finished.its_clauses) in
@@ -65,40 +76,42 @@ module _ (p : Problem) (budget : ℕ) (s : State) (x : Searched) (finished : Fin
   pub text_in-room : (size : ℕ) → length (cnf_text (cnf_of p.clauses s)) ≤ size → length (cnf_bytes x.ended.run x.store.starts x.store.literals) ≤ size
   text_in-room size fits = omega (arith, ap length (cnf-stands p budget s x finished))
 
+  -- the counts and the listing in a room,
+  pub made-listed : (counts : Counts) → counts ≡ record_of x.ended.verdict s → (room : List ℕ) → length (listing x.ended.verdict s) ≤ length room → (n : ℕ) (after : List ℕ)
+      → Put room 0 (listing x.ended.verdict s) n after → SolvedAs (ended x.ended.verdict s) (listing_of (ended x.ended.verdict s)) room (Ok (record { counts = counts; length = n })) after
+  unfolding answer_of listing_of written
+  made-listed counts same room fits n after put =
+      record { answer = ap Answered same; size = omega (arith, put.place); stored = put.stored ∙ sets-front room (listing x.ended.verdict s) (omega arith) }
+
+  pub listed-solved : (room : List ℕ) → length (listing x.ended.verdict s) ≤ length room → (n : ℕ) (after : List ℕ) → Put room 0 (listing x.ended.verdict s) n after
+      → SolvedAs (ended x.ended.verdict s) (listing_of (ended x.ended.verdict s)) room (Ok (record { counts = counts_left; length = n })) after
+  listed-solved = made-listed counts_left counts-stand
+
+  -- and the text in the other room
+  pub made-written : (room : List ℕ) (solved : Solved) (room_last : List ℕ) → SolvedAs (ended x.ended.verdict s) (listing_of (ended x.ended.verdict s)) room (Ok solved) room_last
+      → (export : List ℕ) → length (cnf_text (cnf_of p.clauses s)) ≤ length export → (n : ℕ) (export_last : List ℕ) → Put export 0 (cnf_bytes x.ended.run x.store.starts x.store.literals) n export_last
+      → SolvedAs (ended x.ended.verdict s) (export_of (accepted p) (ended x.ended.verdict s)) export (Ok (record { counts = solved.counts; length = n })) export_last
+  unfolding export_of written
+  made-written room solved room_last h export fits n export_last put =
+      let same = cnf-stands p budget s x finished in
+      record {
+        answer = h.answer;
+        size = omega (arith, put.place, ap length same);
+        stored = put.stored ∙ ap (sets export 0) same ∙ sets-front export (cnf_text (cnf_of p.clauses s)) fits;
+      }
+
 -- ── the sheet ──
 
 module _ (sheet : List ℕ) (budget : ℕ) (p : Problem) (reads : read sheet ≡ accepted p) (x : Searched) (end : AtEnd p budget x) where
-  abbrev pub came : Result
-  came = answered (read sheet) budget
-
   pub listing-in-room : (size : ℕ) → budget < 2 ^ 32 → room_bytes ≤ size → length (listing x.ended.verdict end.state) ≤ size
   listing-in-room size small large = omega (arith, listing-at-most sheet p reads budget x.ended.verdict end.state end.comes small)
 
   pub text-fits : (size : ℕ) → export_bytes ≤ size → length (cnf_text (cnf_of p.clauses end.state)) ≤ size
   text-fits size large = omega (arith, export-at-most sheet p reads budget x.ended.verdict end.state end.comes)
 
-  ends : came ≡ ended x.ended.verdict end.state
+  -- whatever is made of the state in which the search ended is made of the sheet
+  pub end-solved : (made : Reading → Result → List ℕ) (room : List ℕ) (r : Returned Solved Refusal) (last : List ℕ)
+      → SolvedAs (ended x.ended.verdict end.state) (made (accepted p) (ended x.ended.verdict end.state)) room r last
+      → SolvedAs (answered (read sheet) budget) (made (read sheet) (answered (read sheet) budget)) room r last
   unfolding answered searched
-  ends = rw (reads, answered, end.comes, searched) refl
-
-  -- the counts and what was put at the front of a room
-  module _ (counts : Counts) (its_counts : counts ≡ record_of x.ended.verdict end.state) (room : List ℕ) (n : ℕ) (after : List ℕ) where
-    -- the listing,
-    pub listed-solved : length (listing x.ended.verdict end.state) ≤ length room → Put room 0 (listing x.ended.verdict end.state) n after
-        → SolvedAs came (listing_of came) room (Ok (record { counts = counts; length = n })) after
-    unfolding answer_of listing_of written
-    listed-solved fits put =
-        rw (ends, listing_of) record { answer = ap Answered its_counts; size = omega (arith, put.place); stored = put.stored ∙ sets-front room (listing x.ended.verdict end.state) (omega arith) }
-
-    -- or the text
-    pub text-solved : length (cnf_text (cnf_of p.clauses end.state)) ≤ length room → Put room 0 (cnf_bytes x.ended.run x.store.starts x.store.literals) n after
-        → SolvedAs came (export_of (read sheet) came) room (Ok (record { counts = counts; length = n })) after
-    unfolding answer_of export_of written
-    text-solved fits put =
-        let same = cnf-stands p budget end.state x end.finished in
-        rw (ends, reads, export_of)
-        record {
-          answer = ap Answered its_counts;
-          size = omega (arith, put.place, ap length same);
-          stored = put.stored ∙ ap (sets room 0) same ∙ sets-front room (cnf_text (cnf_of p.clauses end.state)) fits;
-        }
+  end-solved made room r last h = rw (reads, answered, end.comes, searched) h

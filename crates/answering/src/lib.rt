@@ -7,19 +7,27 @@ ghost use Rattle.definitions.specs.Bounds.{room_bytes, export_bytes};
 ghost use Rattle.definitions.specs.Words.{Problem};
 ghost use Rattle.definitions.specs.Questions.{read};
 ghost use Rattle.definitions.specs.Search.{State};
-ghost use Rattle.definitions.specs.Call.{answered as answered_of, listing_of, record_of, written};
+ghost use Rattle.definitions.specs.Call.{answered as answered_of, listing_of, record_of};
 ghost use Rattle.definitions.specs.Export.{export_of};
 ghost use Rattle.machine.specs.Finished.{Finished};
-ghost use Rattle.answering.specs.Solving.{SolvedAs};
+ghost use Rattle.answering.specs.Solving.{SolvedAs, listing_in, text_in};
 
 use definitions::{Counts, Refusal};
 use machine::Searched;
 
-// The counts of an answer, and how many bytes at the front of a room hold its listing, or for an export the text of its clauses.
+// The counts of an answer, and how many bytes at the front of a room hold what is made of it.
 #[derive(Clone, Copy, Drop)]
 pub struct Solved {
     pub counts: Counts,
     pub length: usize,
+}
+
+// The counts of an export's answer, and how many bytes at the fronts of its rooms hold the listing and the text of the clauses.
+#[derive(Clone, Copy, Drop)]
+pub struct SolvedExport {
+    pub counts: Counts,
+    pub listing: usize,
+    pub text: usize,
 }
 
 // The counts of a search that has ended.
@@ -50,15 +58,19 @@ pub fn list(sheet: &[u8], budget: u32, room: &mut [u8]) -> Result<Solved, Refusa
 }
 
 // The export with rooms that are large enough.
-pub fn export(sheet: &[u8], budget: u32, room: &mut [u8], cnf: &mut [u8]) -> Result<Solved, Refusal>
+pub fn export(sheet: &[u8], budget: u32, room: &mut [u8], cnf: &mut [u8]) -> Result<SolvedExport, Refusal>
     requires room { room_bytes ≤ length room.old }
     requires cnf { export_bytes ≤ length cnf.old }
-    ensures text { SolvedAs (answered_of (read sheet.now) budget) (export_of (read sheet.now) (answered_of (read sheet.now) budget)) cnf.old result cnf.new }
-    ensures room { room.new ≡ written (listing_of (answered_of (read sheet.now) budget)) room.old }
+    ensures text { SolvedAs (answered_of (read sheet.now) budget) (export_of (read sheet.now) (answered_of (read sheet.now) budget)) cnf.old (text_in result) cnf.new }
+    ensures listing { SolvedAs (answered_of (read sheet.now) budget) (listing_of (answered_of (read sheet.now) budget)) room.old (listing_in result) room.new }
 {
     let searched = pipe::search_sheet(sheet, budget)?;
-    let _listed = listing::put_listing(room, &searched);
-    let length = cnf_writer::put_cnf(cnf, &searched);
+    let listing = listing::put_listing(room, &searched);
+    let text = cnf_writer::put_cnf(cnf, &searched);
     let counts = counts_of(&searched);
-    Ok(Solved { counts, length })
+    Ok(SolvedExport {
+        counts,
+        listing,
+        text,
+    })
 }

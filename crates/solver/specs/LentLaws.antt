@@ -84,16 +84,17 @@ module _ (sheet : List ℕ) (budget : ℕ) (room export : List ℕ) where
 
   -- a question about what is lent is answered no, or none is
   pub short-exported : (q : Question) → some (question_number q) ≡ first_short (export_lendings (length room) (length export))
-      → SolvedAs came (export_of (read sheet) came) export (Err (asked_of_call q)) export × (room ≡ written (listing_of came) room)
+      → SolvedAs came (export_of (read sheet) came) export (Err (asked_of_call q)) export
+      × SolvedAs came (listing_of came) room (Err (asked_of_call q)) room
   unfolding export_result
   short-exported q short =
       let ls = export_lendings (length room) (length export) in
-      (short-lent (export_of (read sheet)) (refused-text (read sheet)) sheet budget export ls q short, (short-lent listing_of unlisted sheet budget room ls q short).stored)
+      (short-lent (export_of (read sheet)) (refused-text (read sheet)) sheet budget export ls q short, short-lent listing_of unlisted sheet budget room ls q short)
 
-  pub enough-exported : none ≡ first_short (export_lendings (length room) (length export)) → (r : Returned Solved Refusal) (room_last export_last : List ℕ)
-      → SolvedAs (answered (read sheet) budget) (export_of (read sheet) (answered (read sheet) budget)) export r export_last
-      → room_last ≡ written (listing_of (answered (read sheet) budget)) room
-      → SolvedAs came (export_of (read sheet) came) export r export_last × (room_last ≡ written (listing_of came) room)
-  enough-exported short r room_last export_last h stored =
+  pub enough-exported : none ≡ first_short (export_lendings (length room) (length export)) → (text listed : Returned Solved Refusal) (room_last export_last : List ℕ)
+      → SolvedAs (answered (read sheet) budget) (export_of (read sheet) (answered (read sheet) budget)) export text export_last
+      → SolvedAs (answered (read sheet) budget) (listing_of (answered (read sheet) budget)) room listed room_last
+      → SolvedAs came (export_of (read sheet) came) export text export_last × SolvedAs came (listing_of came) room listed room_last
+  enough-exported short text listed room_last export_last h k =
       let (large, large_export) = lent-rooms (length room) (length export) short in
-      rw (enough-lent sheet budget room export large large_export) (h, stored)
+      rw (enough-lent sheet budget room export large large_export) (h, k)

@@ -108,7 +108,10 @@ fn exported(sheet: &[u8], budget: u32, room: &mut [u8], cnf: &mut [u8]) -> Resul
     ensures room { room.new ≡ written (listing_of (export_result sheet.now budget room.old cnf.old)) room.old }
 {
     lent::check_rooms(room.len(), cnf.len())?;
-    answering::export(sheet, budget, room, cnf)
+    let made = answering::export(sheet, budget, room, cnf)?;
+    let counts = made.counts;
+    let length = made.text;
+    Ok(Solved { counts, length })
 }
 
 // The export call: hands back the answer and leaves the listing room as the first call does, and leaves the goal clauses and the log as

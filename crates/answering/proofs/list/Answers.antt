@@ -1,7 +1,8 @@
 -- `list` meets its contract: the refusal of the sheet, or the listing of its search. Assumes nothing.
 use Rattle.std.proofs.Common.{arith}
+use Rattle.definitions.specs.Call.{listing_of}
 use Rattle.pipe.specs.ReachingLaws.{reading-refused, reading-searched}
-use Rattle.answering.specs.SolvingLaws.{refusal-listed, listing-in-room, listed-solved}
+use Rattle.answering.specs.SolvingLaws.{refusal-listed, listing-in-room, made-listed, end-solved}
 use Rattle.answering.proofs.Refusals.{handed-on}
 use Rattle.answering.proofs.list.Goals as goal
 
@@ -24,4 +25,5 @@ pub returns : goal.returns
 returns c =
     let (p, reads, end) = reading-searched _ _ _ c.search_sheet.ensures _ c.in_ok-searched.was in
     let fits = listing-in-room _ c.args.budget p reads _ end _ (omega (arith, c.ranges.budget.fits)) c.requires in
-    listed-solved _ c.args.budget p reads _ end _ (c.counts_of-counts.ensures p c.args.budget end.state end.finished) _ _ _ fits (c.put_listing-length.ensures p c.args.budget end.state end.finished)
+    end-solved _ c.args.budget p reads _ end (λ reading came. listing_of came) _ _ _
+    (made-listed p c.args.budget end.state _ end.finished _ (c.counts_of-counts.ensures p c.args.budget end.state end.finished) _ fits _ _ (c.put_listing-length.ensures p c.args.budget end.state end.finished))
