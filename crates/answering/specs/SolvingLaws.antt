@@ -1,6 +1,6 @@
 -- From what the pipe leaves to the result of a sheet that is lent room enough: listing and text fit, a refusal writes nothing. Assumes nothing.
 use Rattle.std.specs.Prelude.{ℕ, ◌-◌, ◌^◌, ◌≤◌, ◌<◌, ◌≡◌, refl, List, [], length, Result as Returned, Ok, Err}
-use Rattle.std.proofs.Common.{ap, sym, ◌∙◌, arith}
+use Rattle.std.proofs.Common.{ap, ◌∙◌, arith}
 use Rattle.std.proofs.lemmas.List.Edits.{sets}
 use Rattle.definitions.specs.Bounds.{room_bytes, export_bytes}
 use Rattle.definitions.specs.Words.{Problem}

@@ -58,7 +58,12 @@ pub fn list(sheet: &[u8], budget: u32, room: &mut [u8]) -> Result<Solved, Refusa
 }
 
 // The export with rooms that are large enough.
-pub fn export(sheet: &[u8], budget: u32, room: &mut [u8], cnf: &mut [u8]) -> Result<SolvedExport, Refusal>
+pub fn export(
+    sheet: &[u8],
+    budget: u32,
+    room: &mut [u8],
+    cnf: &mut [u8],
+) -> Result<SolvedExport, Refusal>
     requires room { room_bytes ≤ length room.old }
     requires cnf { export_bytes ≤ length cnf.old }
     ensures text { SolvedAs (answered_of (read sheet.now) budget) (export_of (read sheet.now) (answered_of (read sheet.now) budget)) cnf.old (text_in result) cnf.new }

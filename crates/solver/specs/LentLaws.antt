@@ -1,8 +1,8 @@
 -- The questions about what is lent, and then the sheet's: a refusal writes nothing, and where enough is lent the call's result is the
 -- sheet's. What is written lies in its room. Assumes nothing.
-use Rattle.std.specs.Prelude.{ℕ, ◌≤◌, ◌<◌, ◌≡◌, refl, leb, List, [], length, take, drop, Result as Returned, Err}
+use Rattle.std.specs.Prelude.{ℕ, ◌≤◌, ◌≡◌, refl, leb, List, [], length, take, drop, Result as Returned, Err}
 use Rattle.std.proofs.Common.{ap, sym, ◌∙◌, arith, length-append, leb-true, leb-false}
-use Rattle.std.proofs.Math.Option.{Option, none, some}
+use Rattle.std.proofs.Math.Option.{none, some}
 use Rattle.std.proofs.Math.Seq.{take-append_seam}
 use Rattle.definitions.specs.Bounds.{room_bytes, export_bytes}
 use Rattle.definitions.specs.Questions.{read}
@@ -14,7 +14,7 @@ use Rattle.definitions.specs.declared.Question.{Question}
 use Rattle.definitions.specs.declared.Refusal.{Refusal}
 use Rattle.theory.specs.Tests.{by-test, apart}
 use Rattle.theory.specs.CallLaws.{short-room, enough-room, large-room}
-use Rattle.theory.specs.ExportLaws.{refused-text, short-listing, short-export, enough-rooms, enough-lent}
+use Rattle.theory.specs.ExportLaws.{refused-text, short-listing, short-export, enough-lent}
 use Rattle.answering.specs.Solving.{SolvedAs}
 use Rattle.answering.specs.SolvingLaws.{refusal-written}
 use Rattle.answering.specs.declared.Solved.{Solved}
