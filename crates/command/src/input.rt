@@ -1,5 +1,5 @@
 // Reading a stream.
-ghost use Rattle.std.specs.Prelude.{◌<◌, IfOk, length};
+ghost use Rattle.std.specs.Prelude.{◌<◌, ◌≤◌, IfOk, length};
 ghost use Rattle.std.specs.Io.KnownBytes.{Consumes, IsAtEnd};
 
 use std::io;
@@ -7,6 +7,7 @@ use std::io::Read;
 
 // Reads until the input ends or the buffer is full: hands back the front of the buffer that was filled.
 pub fn read_full<'a, R: Read>(input: &mut R, buffer: &'a mut [u8]) -> io::Result<&'a [u8]>
+    ensures within { IfOk result (λ read. length read.now ≤ length buffer.old) }
     ensures front { IfOk result (λ read. Consumes (R.remaining input.old) (R.remaining input.new) read.now) }
     ensures whole { IfOk result (λ read. length read.now < length buffer.old → IsAtEnd (R.remaining input.new)) }
 {

@@ -3,7 +3,7 @@
 // are told on standard error.
 #![tactic(auto)]
 
-ghost use Rattle.std.specs.Prelude.{IfErr, OnOk};
+ghost use Rattle.std.specs.Prelude.{◌≤◌, length, IfErr, OnOk};
 ghost use Rattle.thunyaworm.specs.Outputs.{Outputs, KeepsUnread, printed_as};
 
 use command::input::read_full;
@@ -76,7 +76,9 @@ fn print<R: Read, W: Write>(input: &mut R, output: &mut W, order: Order) -> Resu
 }
 
 // A word behind the command's name. One that doesn't fit is as long as the buffer, and so none of the command's.
-fn fetch<'a>(rt: &impl Env, i: usize, word: &'a mut [u8; WORD_BUFFER]) -> &'a [u8] {
+fn fetch<'a>(rt: &impl Env, i: usize, word: &'a mut [u8; WORD_BUFFER]) -> &'a [u8]
+    ensures { length result.now ≤ length word.old }
+{
     let length = match rt.arg(i, word) {
         Ok(length) => length,
         Err(FillError::TooLong) => WORD_BUFFER,
