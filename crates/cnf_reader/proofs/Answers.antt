@@ -1,5 +1,5 @@
 -- What the reader answers, by the header and by what the clause lines come to. Assumes nothing.
-use Rattle.std.proofs.Common.{◌≡◌, ℕ, List, Option, Some, None, MatchOption, Result, Ok, Err}
+use Rattle.std.proofs.Common.{◌≡◌, ℕ, List, Option, Some, None, Result, Ok, Err}
 use Rattle.std.specs.Option.{ok_or}
 use Rattle.std.specs.Result.{IsErrAnd}
 use Rattle.definitions.specs.Questions.{no, yes, ◌>>=◌}
@@ -21,10 +21,13 @@ module _ (text : List ℕ) where
   unfolding read_cnf cnf_read ◌>>=◌
   answer-no-header e = rw e
 
-  -- the lines behind a header
-  pub answer-lines : (header : Header) (behind : List ℕ) → header_at text ≡ yes (front header behind) → (r : Option Cnf)
-      → MatchOption r (clauses_at header.atoms header.clauses behind ≡ no 22) (λ cnf. CnfHeld (clauses_at header.atoms header.clauses behind) header.atoms cnf)
-      → ok_or r question.ClauseLines ≡ cnf_read (read_cnf text)
-  unfolding read_cnf cnf_read ◌>>=◌
-  answer-lines header behind named None e = rw (named, e)
-  answer-lines header behind named (Some cnf) h = rw (named, h.reads, h.is)
+  module _ (header : Header) (behind : List ℕ) (named : header_at text ≡ yes (front header behind)) where
+    -- lines behind a header that are refused
+    pub answer-no-lines : clauses_at header.atoms header.clauses behind ≡ no 22 → ◌≡◌ {A = Result Cnf Question} (Err question.ClauseLines) (cnf_read (read_cnf text))
+    unfolding read_cnf cnf_read ◌>>=◌
+    answer-no-lines e = rw (named, e)
+
+    -- the clauses that they make
+    pub answer-lines : (cnf : Cnf) → CnfHeld (clauses_at header.atoms header.clauses behind) header.atoms cnf → Ok cnf ≡ cnf_read (read_cnf text)
+    unfolding read_cnf cnf_read ◌>>=◌
+    answer-lines cnf h = rw (named, h.reads, h.is)

@@ -2,10 +2,10 @@
 ghost use Rattle.std.specs.Prelude.{◌≡◌, ◌+◌, ◌≤◌, MatchOption, IfSome};
 ghost use Rattle.definitions.specs.Questions.{no};
 ghost use Rattle.definitions.specs.Dimacs.{front, minus_at, literal_at, clause_line_at, clauses_at};
-ghost use Rattle.cnf_reader.specs.Lines.{LiteralRead, LineHeld, CnfHeld};
+ghost use Rattle.cnf_reader.specs.Lines.{LiteralRead, LineHeld, ClausesHeld};
 
 use crate::parts::Header;
-use crate::{Cnf, STARTS, WORDS, parts};
+use crate::{STARTS, WORDS, parts};
 use encoding::words;
 
 // The most literals of a clause.
@@ -55,29 +55,27 @@ fn read_line<'a>(
     Some((used + CLAUSE_LITERALS, parts::behind(rest, b"0\n")?))
 }
 
-// As many clause lines as the header names, and nothing behind them.
-pub fn read_clauses(header: Header, text: &[u8]) -> Option<Cnf>
+// As many clause lines as the header names, and nothing behind them: where each clause starts, and the words of all.
+pub fn read_clauses(
+    header: Header,
+    text: &[u8],
+    starts: &mut [u16; STARTS],
+    literals: &mut [u16; WORDS],
+) -> Option<()>
     requires { header.clauses ≤ 576 }
     ensures { MatchOption result (clauses_at header.atoms header.clauses text.now ≡ no 22)
-        (λ cnf. CnfHeld (clauses_at header.atoms header.clauses text.now) header.atoms cnf) }
+        (λ done. ClausesHeld (clauses_at header.atoms header.clauses text.now) 0 0 starts.old literals.old starts.new literals.new) }
 {
     let Header { atoms, clauses } = header;
-    let mut starts = [0; STARTS];
-    let mut literals = [0; WORDS];
     let mut rest = text;
     let mut used = 0;
     for i in 0..usize::from(clauses) {
         starts[i] = used as u16;
-        (used, rest) = read_line(rest, atoms, &mut literals, used)?;
+        (used, rest) = read_line(rest, atoms, literals, used)?;
     }
     starts[usize::from(clauses)] = used as u16;
     if !rest.is_empty() {
         return None;
     }
-    Some(Cnf {
-        atoms,
-        clauses,
-        starts,
-        literals,
-    })
+    Some(())
 }

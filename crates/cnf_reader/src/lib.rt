@@ -30,5 +30,15 @@ pub fn read_cnf(text: &[u8]) -> Result<Cnf, Question>
     ensures { result ≡ cnf_read (read_cnf text.now) }
 {
     let (header, lines) = parts::header_at(text).ok_or(Question::Header)?;
-    clause_lines::read_clauses(header, lines).ok_or(Question::ClauseLines)
+    let mut cnf = Cnf {
+        atoms: header.atoms,
+        clauses: header.clauses,
+        starts: [0; STARTS],
+        literals: [0; WORDS],
+    };
+    // The arrays are filled where they stand, since one that is handed on in an Option is copied.
+    clause_lines::read_clauses(header, lines, &mut cnf.starts, &mut cnf.literals).ok_or(
+        Question::ClauseLines,
+    )?;
+    Ok(cnf)
 }

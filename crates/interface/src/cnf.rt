@@ -41,7 +41,7 @@ pub extern "C" fn thunyaworm_export(
 // What was read: the values of the answer at the front of the places, and how many there are; and the arrays, but for a refusal.
 #[tactic(auto, unfolding(cnf_reader::specs::CnfArrays::cnf_values, crate::specs::Handed::unless_refused))]
 fn put_read(
-    read: Result<Cnf, Question>,
+    read: &Result<Cnf, Question>,
     starts: &mut [u16],
     literals: &mut [u16],
     places: &mut [u64],
@@ -49,14 +49,14 @@ fn put_read(
     requires starts { 577 ≤ length starts.old }
     requires literals { 4608 ≤ length literals.old }
     requires places { 3 ≤ length places.old }
-    requires lengths { IfOk read (λ cnf. (length cnf.starts ≡ 577) × (length cnf.literals ≡ 4608)) }
-    ensures count { result ≡ length (cnf_values read) }
-    ensures places { places.new ≡ sets places.old 0 (cnf_values read) }
-    ensures starts { starts.new ≡ sets starts.old 0 (unless_refused (λ cnf. cnf.starts) read) }
-    ensures literals { literals.new ≡ sets literals.old 0 (unless_refused (λ cnf. cnf.literals) read) }
+    requires lengths { IfOk read.now (λ cnf. (length cnf.starts ≡ 577) × (length cnf.literals ≡ 4608)) }
+    ensures count { result ≡ length (cnf_values read.now) }
+    ensures places { places.new ≡ sets places.old 0 (cnf_values read.now) }
+    ensures starts { starts.new ≡ sets starts.old 0 (unless_refused (λ cnf. cnf.starts) read.now) }
+    ensures literals { literals.new ≡ sets literals.old 0 (unless_refused (λ cnf. cnf.literals) read.now) }
 {
     match read {
-        Err(question) => put(places, &[u64::from(u8::from(question))]),
+        Err(question) => put(places, &[u64::from(u8::from(*question))]),
         Ok(cnf) => {
             put(starts, &cnf.starts);
             put(literals, &cnf.literals);
@@ -91,5 +91,5 @@ pub extern "C" fn thunyaworm_read_cnf(
     if places.len() < CNF_PLACES {
         return 0;
     }
-    put_read(cnf_reader::read_cnf(text), starts, literals, places)
+    put_read(&cnf_reader::read_cnf(text), starts, literals, places)
 }

@@ -1,6 +1,6 @@
 -- `clause_lines::read_clauses` meets its contract: what the rest of the lines comes to, so do all. Assumes nothing.
 use Rattle.std.proofs.Common.{◌≡◌, sym, ◌∙◌, ◌+◌, ◌-◌, arith}
-use Rattle.cnf_reader.proofs.Clauses.{clauses-end, clauses-more, clauses-none, clauses-turn, all-held}
+use Rattle.cnf_reader.proofs.Clauses.{clauses-end, clauses-more, clauses-none, clauses-turn}
 use Rattle.cnf_reader.proofs.clause_lines.read_clauses.Goals as goal
 
 pub returns-in_err-used : goal.returns-in_err-used
@@ -17,4 +17,4 @@ returns-then-not-is_empty c = clauses-more c.loop-i.invariant.1 (omega arith) (s
 pub returns : goal.returns
 returns c =
     let last : c.loop-i.i ≡ c.from.result = omega arith in
-    all-held _ _ _ _ _ (rw last at (clauses-end c.loop-i.invariant.1 (omega arith) (sym c.is_empty.ensures ∙ c.if-not-is_empty.false)))
+    rw last at (clauses-end c.loop-i.invariant.1 (omega arith) (sym c.is_empty.ensures ∙ c.if-not-is_empty.false))
