@@ -25,16 +25,14 @@ fn fill(room: &mut [u8]) {
 
 // How many bytes of a room are no longer those before, from a place on.
 fn changed(room: &[u8], from: usize) -> usize {
-    room.iter()
-        .enumerate()
-        .skip(from)
-        .filter(|(i, byte)| **byte != mark(*i))
-        .count()
+    (from..room.len()).filter(|i| room[*i] != mark(*i)).count()
 }
 
 // In how many bytes two rooms differ, as far as both go.
 fn unlike(one: &[u8], other: &[u8]) -> usize {
-    one.iter().zip(other).filter(|(a, b)| a != b).count()
+    (0..one.len().min(other.len()))
+        .filter(|i| one[*i] != other[*i])
+        .count()
 }
 
 fn print(rt: &impl Print, n: u64) -> io::Result<()> {
